@@ -1,0 +1,10 @@
+pub mod Calls
+pub mod Causes
+pub mod Content
+pub mod FolderPath
+pub mod FolderSource
+pub mod MemoryInput
+pub mod MemorySink
+pub mod MemorySource
+pub mod RealStreams
+pub mod Texts
