@@ -1,0 +1,4 @@
+pub mod Packing
+pub mod Gathering
+pub mod Places
+pub mod Views

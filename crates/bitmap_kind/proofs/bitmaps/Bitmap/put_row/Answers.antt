@@ -1,0 +1,19 @@
+use Rattle.std.proofs.Common.{◌≡◌, ◌*◌, length, sym, ap, ◌∙◌, arith}
+use Rattle.bitmap_kind.specs.Stored.{pixel_bytes, stored, overwritten}
+use Rattle.bitmap_kind.specs.Picture.{BitmapValue}
+use Rattle.bitmap_kind.proofs.Packing.{length-stored}
+use Rattle.bitmap_kind.proofs.Places.{row_inside}
+use Rattle.bitmap_kind.proofs.Views.{view-written}
+use Rattle.bitmap_kind.proofs.bitmaps.Bitmap.put_row.Goals as goal
+
+pub returns : goal.returns
+returns c =
+    let s = c.self.inside in
+    let at = c.args.y * (s.width * pixel_bytes s.config) in
+    let piece = stored s.config c.args.rgba.now in
+    let wide : s.width ≡ c.args.self.now.picture.width = ap (λ (v : BitmapValue). v.picture.width) c.self.view_is in
+    let high : s.height ≡ c.args.self.now.picture.height = ap (λ (v : BitmapValue). v.picture.height) c.self.view_is in
+    let size : length piece ≡ s.width * pixel_bytes s.config = length-stored s.config c.args.rgba.now s.width (c.requires.pixels ∙ ap (λ w. 4 * w) (sym wide)) in
+    let is : c.write_pixels.new.memory ≡ overwritten s.memory.items at piece = c.write_pixels.ensures ∙ (λ i. overwritten (c.deref_mut.ensures.value i) (c.args.y * (s.width * c.pixel_bytes.ensures i)) piece) in
+    view-written s c.write_pixels.new.memory piece at c.self.invariant is (rw size (row_inside c.args.y s.width s.height (pixel_bytes s.config) (omega (arith, c.requires.row))))
+    ∙ ap (λ (v : BitmapValue). record v { picture = record v.picture { bytes = overwritten v.picture.bytes (c.args.y * (v.picture.width * pixel_bytes v.picture.config)) (stored v.picture.config c.args.rgba.now) } }) c.self.view_is

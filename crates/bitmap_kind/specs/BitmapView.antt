@@ -1,0 +1,16 @@
+-- How the fields of a bitmap are seen.
+use Rattle.std.specs.Prelude.{◌≤◌, length, take, drop}
+use Rattle.bitmap_kind.specs.Picture.{BitmapValue, stored_size, IsSize}
+use Rattle.bitmap_kind.specs.declared.bitmaps.Bitmap.TheInside.{Inside}
+
+abbrev pub value_of : Inside → BitmapValue
+value_of b = record {
+  number = b.number;
+  allocation = length b.memory.items;
+  picture = record { width = b.width; height = b.height; config = b.config; bytes = take (stored_size b.width b.height b.config) b.memory.items };
+  spare = drop (stored_size b.width b.height b.config) b.memory.items;
+}
+
+pub record IsWhole (b : Inside) : Type 0 where
+  pub size : IsSize b.width b.height
+  pub fits : stored_size b.width b.height b.config ≤ length b.memory.items

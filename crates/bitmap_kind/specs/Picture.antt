@@ -1,0 +1,60 @@
+-- What contracts see of a bitmap.
+use Rattle.std.specs.Prelude.{ℕ, ◌+◌, ◌*◌, ◌≤◌, List, ◌++◌, take, drop}
+use Rattle.std.specs.List.{flat_map}
+use Rattle.bitmap_kind.specs.Stored.{pixel_bytes, overwritten}
+use Rattle.bitmap_kind.specs.declared.bitmaps.Config.{Config}
+
+-- The stored bytes are rows from the top, and in a row the pixels from the left.
+pub record Picture : Type 0 where
+  pub width : ℕ
+  pub height : ℕ
+  pub config : Config
+  pub bytes : List ℕ
+
+-- A bitmap's memory is the stored bytes of its picture, and then the spare ones. The allocation is the size of both.
+pub record BitmapValue : Type 0 where
+  pub number : ℕ
+  pub allocation : ℕ
+  pub picture : Picture
+  pub spare : List ℕ
+
+abbrev pub stored_size : ℕ → ℕ → Config → ℕ
+stored_size width height config = width * height * pixel_bytes config
+
+-- Both sides are at least 1, and there are at most 2 ^ 25 pixels, a limit of this project.
+pub record IsSize (width height : ℕ) : Type 0 where
+  pub wide : 1 ≤ width
+  pub high : 1 ≤ height
+  pub most : width * height ≤ 33554432
+
+-- a size that a bitmap may have, whose stored bytes fit in an allocation
+pub record FitsIn (allocation width height : ℕ) (config : Config) : Type 0 where
+  pub size : IsSize width height
+  pub room : stored_size width height config ≤ allocation
+
+-- where the pixel of a column and a row begins among the stored bytes
+abbrev pub pixel_place : Picture → ℕ → ℕ → ℕ
+pixel_place picture x y = (y * picture.width + x) * pixel_bytes picture.config
+
+-- that pixel's stored bytes
+abbrev pub pixel_at : Picture → ℕ → ℕ → List ℕ
+pixel_at picture x y = take (pixel_bytes picture.config) (drop (pixel_place picture x y) picture.bytes)
+
+-- in a row the pixels of these columns, one after the other
+abbrev pub pixels_at : Picture → ℕ → List ℕ → List ℕ
+pixels_at picture y columns = flat_map (λ x. pixel_at picture x y) columns
+
+-- in a row so many neighbours, from a column on
+abbrev pub run_at : Picture → ℕ → ℕ → ℕ → List ℕ
+run_at picture x y count = take (count * pixel_bytes picture.config) (drop (pixel_place picture x y) picture.bytes)
+
+-- a bitmap with a piece written over its stored bytes
+abbrev pub with_piece : BitmapValue → ℕ → List ℕ → BitmapValue
+with_piece bitmap at piece = record bitmap { picture = record bitmap.picture { bytes = overwritten bitmap.picture.bytes at piece } }
+
+-- the same memory, seen with other sides and another config
+abbrev pub reconfigured : BitmapValue → ℕ → ℕ → Config → BitmapValue
+reconfigured bitmap width height config = record bitmap {
+  picture = record { width = width; height = height; config = config; bytes = take (stored_size width height config) (bitmap.picture.bytes ++ bitmap.spare) };
+  spare = drop (stored_size width height config) (bitmap.picture.bytes ++ bitmap.spare);
+}

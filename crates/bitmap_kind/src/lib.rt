@@ -1,0 +1,9 @@
+// Bitmaps: how a pixel is stored, and the calls that change a bitmap's pixels.
+#![tactic(auto)]
+
+mod bitmaps;
+mod pieces;
+#[cfg(test)]
+mod tests;
+
+pub use bitmaps::{Bitmap, Config, Rule, Transform};
