@@ -1,0 +1,7 @@
+pub mod Sample
+pub mod Sampled
+pub mod SampleLaws
+pub mod Lanes
+pub mod SumsView
+pub mod BoxValue
+pub mod BoxView

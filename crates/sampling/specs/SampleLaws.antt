@@ -1,0 +1,32 @@
+-- What a sample is for, in terms of the sides that it gives.
+use Rattle.std.specs.Prelude.{ℕ, ◌*◌, ◌/◌, ◌<◌, ◌≤◌, ◌⊎◌}
+use Rattle.std.specs.Int.{IsPowerOfTwo}
+use Rattle.bitmap_kind.specs.declared.bitmaps.Rule.{Rule}
+use Rattle.bitmap_kind.specs.declared.bitmaps.Rule.TheVariants.{AtLeast, AtMost}
+use Rattle.sampling.specs.Sample.{sample_of, IsSize}
+use Rattle.sampling.specs.Sampled.{sampled_side}
+
+-- the sampled sides of a source under the sample that a rule gives
+abbrev pub sampled_size : (source wanted : ℕ × ℕ) → Rule → ℕ × ℕ
+sampled_size source wanted rule = (sampled_side source.0 (sample_of source wanted rule), sampled_side source.1 (sample_of source wanted rule))
+
+-- neither side of the one is below that of the other
+pub record Covers (size other : ℕ × ℕ) : Type 0 where
+  pub wide : other.0 ≤ size.0
+  pub high : other.1 ≤ size.1
+
+abbrev pub EachSampleIsAPower : Type 0
+EachSampleIsAPower = (source wanted : ℕ × ℕ) (rule : Rule) → IsSize source → IsSize wanted → IsPowerOfTwo (sample_of source wanted rule)
+
+-- the sampled size covers the wanted one where the source does
+abbrev pub AtLeastCovers : Type 0
+AtLeastCovers = (source wanted : ℕ × ℕ) → IsSize source → IsSize wanted → Covers source wanted → Covers (sampled_size source wanted AtLeast) wanted
+
+-- and under twice the sample some side has no longer as many blocks as the wanted side has pixels
+abbrev pub AtLeastIsHighest : Type 0
+AtLeastIsHighest = (source wanted : ℕ × ℕ) → IsSize source → IsSize wanted
+    → (source.0 / (2 * sample_of source wanted AtLeast) < wanted.0) ⊎ (source.1 / (2 * sample_of source wanted AtLeast) < wanted.1)
+
+-- the wanted size covers the sampled one
+abbrev pub AtMostIsCovered : Type 0
+AtMostIsCovered = (source wanted : ℕ × ℕ) → IsSize source → IsSize wanted → Covers wanted (sampled_size source wanted AtMost)
