@@ -1,0 +1,11 @@
+pub mod Digits
+pub mod Parts
+pub mod Lines
+pub mod Putting
+pub mod Gathers
+pub mod Writing
+pub mod Filling
+pub mod Obeys
+pub mod Scripts
+pub mod Realize
+pub mod Ends

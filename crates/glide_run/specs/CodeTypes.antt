@@ -1,0 +1,59 @@
+-- The code's types, as the definitions see them. What moves to another crate moves here alone.
+use Rattle.std.specs.Prelude.{List, map, ⊤, Ok, Err, Result, ◌≡◌}
+use Rattle.bitmap_kind.specs.Picture.{Picture, BitmapValue}
+use Rattle.glide_run.specs.declared.causes.Refusal as code_refusal
+use Rattle.glide_run.specs.declared.causes.Refusal.TheVariants as refusals
+use Rattle.glide_run.specs.declared.causes.Cause as code_cause
+use Rattle.glide_run.specs.declared.causes.Cause.TheVariants as causes
+use Rattle.glide_run.specs.declared.decode.DecodeFault.{DecodeFault}
+use Rattle.glide_run.specs.declared.decode.DecodeFault.TheVariants as faults
+use Rattle.glide_run.specs.declared.requests.Request.{Request}
+use Rattle.glide_run.specs.declared.script.Command as code_command
+use Rattle.glide_run.specs.declared.script.Command.TheVariants as commands
+use Rattle.glide_run.specs.declared.keys.EngineKey.{EngineKey}
+use Rattle.glide_run.specs.declared.views.ViewState.{ViewState}
+use Rattle.glide_run.specs.declared.views.ViewState.TheVariants as states
+use Rattle.glide_run.specs.declared.views.View as code_view
+use Rattle.glide_run.specs.Script.{Key, Command, Nothing, Bad, Load, Dump}
+use Rattle.glide_run.specs.Pictures.{Refusal, Unknown, refusal_of}
+use Rattle.glide_run.specs.Views.{Cause, Missing, Refused, Source, Memory, Uncached, State, Running, Complete, Failed, Seen}
+
+abbrev pub refusal_by : code_refusal.Refusal → Refusal
+refusal_by refusals.Unknown = Unknown
+refusal_by (refusals.Ppm fault) = refusal_of fault
+
+abbrev pub cause_by : code_cause.Cause → Cause
+cause_by causes.Missing = Missing
+cause_by (causes.Refused refusal) = Refused (refusal_by refusal)
+cause_by causes.Source = Source
+cause_by causes.Memory = Memory
+cause_by causes.Uncached = Uncached
+
+abbrev pub key_by : EngineKey → Key
+key_by key = record { url = key.url; sig = key.sig; width = key.width; height = key.height }
+
+abbrev pub request_key : Request → Key
+request_key request = record { url = request.url.now; sig = request.sig.now; width = request.width; height = request.height }
+
+abbrev pub command_by : code_command.Command → Command
+command_by commands.Nothing = Nothing
+command_by commands.Bad = Bad
+command_by (commands.Load request) = Load request.view.now (request_key request)
+command_by (commands.Dump view) = Dump view.now
+
+abbrev pub state_by : ViewState → State ⊤
+state_by states.Running = Running tt
+state_by (states.Complete bitmap) = Complete bitmap.picture
+state_by (states.Failed cause) = Failed (cause_by cause)
+
+abbrev pub view_by : code_view.View → Seen
+view_by view = record { name = view.name; key = key_by view.key; state = state_by view.state }
+
+abbrev pub views_by : List code_view.View → List Seen
+views_by views = map view_by views
+
+-- What was decoded is this picture, or this refusal comes, unless memory is wanting.
+abbrev pub Decodes : Result BitmapValue DecodeFault → Result Picture Refusal → Type 0
+Decodes (Ok bitmap) picture = picture ≡ Ok bitmap.picture
+Decodes (Err faults.Memory) picture = ⊤
+Decodes (Err (faults.Refused refusal)) picture = picture ≡ Err (refusal_by refusal)

@@ -1,0 +1,20 @@
+-- What a call did to the source and the sink that it was handed.
+use Rattle.std.specs.Prelude.{◌≡◌, ◌≢◌, ℕ, ◌≤◌, List, [], ◌++◌, OnSome}
+use Rattle.std.specs.declared.option.Option.{Option}
+use Rattle.std.specs.Io.KnownBytes.{Appends}
+use Rattle.outside.specs.Causes.{Rose}
+use Rattle.outside.specs.Content.{Address, Contents}
+
+-- These fetches failed: the source's list grew by them, where it tells its content, and its count of faults rose if there are any.
+pub record Gains (content : Option Contents) (fo fn : List Address) (before now : ℕ) (failed : List Address) : Type 0 where
+  pub recorded : OnSome content (fn ≡ fo ++ failed)
+  pub later : before ≤ now
+  pub caused : failed ≢ [] → Rose before now
+
+-- A front of the bytes was added to what a sink has, if it tells that, and all of them where they are whole.
+pub record WritesFront (old new : Option (List ℕ)) (bytes : List ℕ) (whole : Type 0) : Type 0 where
+  pub front : List ℕ
+  pub rest : List ℕ
+  pub parts : bytes ≡ front ++ rest
+  pub added : Appends old new front
+  pub all : whole → rest ≡ []

@@ -1,0 +1,12 @@
+pub mod Script
+pub mod Pictures
+pub mod Views
+pub mod Printed
+pub mod Walk
+pub mod Run
+pub mod CodeTypes
+pub mod Effects
+pub mod Reading
+pub mod ReaderView
+pub mod Obeying
+pub mod Ending

@@ -1,0 +1,126 @@
+-- The script language: lines, their words, and what a line asks for. It is this project's own; docs/SCRIPT.md tells it whole.
+use Rattle.std.specs.Prelude.{ℕ, ◌-◌, Bool, false, not, ◌&&◌, ◌||◌, ◌==◌, nat_le, nat_lt, nat_eq, List, [], ◌∷◌, ◌++◌, length, take, get_or, map, if◌then◌else◌, Some, None, codes}
+use Rattle.std.specs.List.{filter, slice_split, list_all, ends_with}
+use Rattle.std.specs.Char.{is_ascii_alphanumeric, is_ascii_digit}
+use Rattle.std.specs.Str.{bytes_eq}
+use Rattle.std.specs.Str.Parse.{digits_value}
+use Rattle.std.specs.declared.option.Option.{Option}
+
+-- the picture that a load asks for
+pub record Key : Type 0 where
+  pub url : List ℕ
+  pub sig : List ℕ
+  pub width : ℕ
+  pub height : ℕ
+
+-- What a line asks for. An empty line and a comment ask for nothing; a bad line is none of the forms.
+pub data Command : Type 0 where
+  Nothing : Command
+  Bad : Command
+  Load : (view : List ℕ) (key : Key) → Command
+  Dump : (view : List ℕ) → Command
+
+-- ---- lines of a text
+
+-- a byte before the first of the lines, if there is one
+abbrev pub onto_first : ℕ → List (List ℕ) → List (List ℕ)
+onto_first byte [] = []
+onto_first byte (line ∷ lines) = (byte ∷ line) ∷ lines
+
+-- a byte before the first of the lines, or in a line of its own
+abbrev pub onto_line : ℕ → List (List ℕ) → List (List ℕ)
+onto_line byte [] = (byte ∷ []) ∷ []
+onto_line byte (line ∷ lines) = (byte ∷ line) ∷ lines
+
+-- the lines that a line feed ends
+abbrev pub ended_lines : List ℕ → List (List ℕ)
+ended_lines [] = []
+ended_lines (byte ∷ text) = if byte == 10 then [] ∷ ended_lines text else onto_first byte (ended_lines text)
+
+-- all lines, of which the last may lack its line feed
+abbrev pub lines_of : List ℕ → List (List ℕ)
+lines_of [] = []
+lines_of (byte ∷ text) = if byte == 10 then [] ∷ lines_of text else onto_line byte (lines_of text)
+
+-- a line without one carriage return at its end
+abbrev pub trimmed : List ℕ → List ℕ
+trimmed line = if ends_with nat_eq line (13 ∷ []) then take (length line - 1) line else line
+
+-- ---- words of a line
+
+-- the parts between spaces that are not empty
+abbrev pub words : List ℕ → List (List ℕ)
+words line = filter (λ word. not (length word == 0)) (slice_split (λ byte. byte == 32) line)
+
+-- the word at this place, from 0
+abbrev pub word : List (List ℕ) → ℕ → List ℕ
+word ws place = get_or ws place []
+
+abbrev pub is_name_byte : ℕ → Bool
+is_name_byte byte = is_ascii_alphanumeric byte || byte == 95 || byte == 45 || byte == 46
+
+-- a view's name: 1 to 32 letters, digits, `_`, `-` and `.`
+abbrev pub is_name : List ℕ → Bool
+is_name word = not (length word == 0) && nat_le (length word) 32 && list_all is_name_byte word
+
+-- up to five digits, the first of them not 0, that spell a number from 1 to 16,384
+abbrev pub is_side : List ℕ → Bool
+is_side word = list_all is_ascii_digit word && nat_le (length word) 5 && not (get_or word 0 48 == 48) && nat_lt 0 (digits_value 10 word) && nat_le (digits_value 10 word) 16384
+
+-- a wanted side in pixels
+abbrev pub side : List ℕ → Option ℕ
+side word = if is_side word then Some (digits_value 10 word) else None
+
+-- ---- the forms of a line
+
+-- `load VIEW URL SIG W H none argb`: its words that are fixed
+abbrev pub is_load : List ℕ → List ℕ → List ℕ → Bool
+is_load verb transform config = bytes_eq verb (codes "load") && bytes_eq transform (codes "none") && bytes_eq config (codes "argb")
+
+-- a view's name, a url of at most 1,024 bytes and a signature of at most 64
+abbrev pub is_request : List ℕ → List ℕ → List ℕ → Bool
+is_request view url sig = is_name view && nat_le (length url) 1024 && nat_le (length sig) 64
+
+abbrev pub load_of : List ℕ → List ℕ → List ℕ → Option ℕ → Option ℕ → Command
+load_of view url sig (Some width) (Some height) = Load view record { url = url; sig = sig; width = width; height = height }
+load_of view url sig None height = Bad
+load_of view url sig (Some width) None = Bad
+
+abbrev pub load_command : List (List ℕ) → Command
+load_command ws = if is_load (word ws 0) (word ws 6) (word ws 7) && is_request (word ws 1) (word ws 2) (word ws 3)
+    then load_of (word ws 1) (word ws 2) (word ws 3) (side (word ws 4)) (side (word ws 5)) else Bad
+
+-- `dump VIEW`
+abbrev pub dump_command : List ℕ → List ℕ → Command
+dump_command verb view = if bytes_eq verb (codes "dump") && is_name view then Dump view else Bad
+
+abbrev pub words_command : List (List ℕ) → Command
+words_command ws = if length ws == 0 then Nothing else if length ws == 2 then dump_command (word ws 0) (word ws 1) else if length ws == 8 then load_command ws else Bad
+
+-- a space, or a byte of a word
+abbrev pub is_line_byte : ℕ → Bool
+is_line_byte byte = nat_le 32 byte && nat_le byte 126
+
+-- a line whose first word begins with `#`
+abbrev pub is_comment : List (List ℕ) → Bool
+is_comment ((byte ∷ rest) ∷ more) = byte == 35
+is_comment other = false
+
+abbrev pub trimmed_command : List ℕ → Command
+trimmed_command line = if nat_lt 2048 (length line) then Bad else if is_comment (words line) then Nothing
+    else if list_all is_line_byte line then words_command (words line) else Bad
+
+-- what a line asks for, which may have a carriage return at its end and has at most 2,048 bytes without it
+abbrev pub line_command : List ℕ → Command
+line_command line = trimmed_command (trimmed line)
+
+-- ---- a script
+
+-- What the lines ask for, where only so many bytes may be read: in a longer text the line that holds the byte after them is bad.
+abbrev pub commands_within : ℕ → List ℕ → List Command
+commands_within room text = if nat_le (length text) room then map line_command (lines_of text)
+    else map line_command (ended_lines (take room text)) ++ Bad ∷ []
+
+-- what a script of at most 1,048,576 bytes asks for, line by line
+unfoldable pub commands : List ℕ → List Command
+commands script = commands_within 1048576 script

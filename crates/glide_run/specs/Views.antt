@@ -1,0 +1,80 @@
+-- Views, and what becomes of the pictures that are asked for in them.
+use Rattle.std.specs.Prelude.{ℕ, Bool, false, ◌||◌, nat_lt, List, [], ◌∷◌, ◌++◌, length, map, if◌then◌else◌, Ok, Err, Some, None, Result, ⊤}
+use Rattle.std.specs.declared.option.Option.{Option}
+use Rattle.std.specs.Str.{bytes_eq}
+use Rattle.outside.specs.Content.{Address}
+use Rattle.bitmap_kind.specs.Picture.{Picture}
+use Rattle.glide_run.specs.Script.{Key}
+use Rattle.glide_run.specs.Pictures.{Refusal, picture_of}
+
+-- why a view failed: the content has no such picture, its text is refused, a fetch failed, memory was wanting, or no cache had it
+pub data Cause : Type 0 where
+  Missing : Cause
+  Refused : (refusal : Refusal) → Cause
+  Source : Cause
+  Memory : Cause
+  Uncached : Cause
+
+-- A request runs, is complete with its picture, or failed. Something may be noted of one that runs.
+pub data State (N : Type 0) : Type 0 where
+  Running : (note : N) → State N
+  Complete : (picture : Picture) → State N
+  Failed : (cause : Cause) → State N
+
+-- a view, the picture that was asked for in it last, and what became of that
+pub record View (N : Type 0) : Type 0 where
+  pub name : List ℕ
+  pub key : Key
+  pub state : State N
+
+-- a view of whose request nothing is noted
+abbrev pub Seen : Type 0
+Seen = View ⊤
+
+abbrev pub seen_state : {N : Type 0} → State N → State ⊤
+seen_state (Running note) = Running tt
+seen_state (Complete picture) = Complete picture
+seen_state (Failed cause) = Failed cause
+
+abbrev pub seen : {N : Type 0} → View N → Seen
+seen view = record { name = view.name; key = view.key; state = seen_state view.state }
+
+-- ---- what a fetch leads to
+
+abbrev pub address_of : Key → Address
+address_of key = (key.url, key.sig)
+
+abbrev pub decoded : {N : Type 0} → Result Picture Refusal → State N
+decoded (Ok picture) = Complete picture
+decoded (Err refusal) = Failed (Refused refusal)
+
+-- where a fetch answered a text, or that there is none
+abbrev pub fetched : {N : Type 0} → Key → Option (List ℕ) → State N
+fetched key None = Failed Missing
+fetched key (Some text) = decoded (picture_of text key)
+
+-- ---- views by name, in order of first load
+
+abbrev pub names_of : {N : Type 0} → List (View N) → List (List ℕ)
+names_of views = map (λ view. view.name) views
+
+abbrev pub has_name : List ℕ → List (List ℕ) → Bool
+has_name name [] = false
+has_name name (other ∷ names) = bytes_eq other name || has_name name names
+
+-- There are at most 4,096 views.
+abbrev pub can_name : List ℕ → List (List ℕ) → Bool
+can_name name names = has_name name names || nat_lt (length names) 4096
+
+abbrev pub with_name : List ℕ → List (List ℕ) → List (List ℕ)
+with_name name names = if has_name name names then names else names ++ name ∷ []
+
+-- the view of this name, if there is one
+abbrev pub named : {N : Type 0} → List ℕ → List (View N) → List (View N)
+named name [] = []
+named name (view ∷ views) = if bytes_eq view.name name then view ∷ [] else named name views
+
+-- the view in the place of the one of its name, or behind all
+abbrev pub put_view : {N : Type 0} → View N → List (View N) → List (View N)
+put_view new [] = new ∷ []
+put_view new (view ∷ views) = if bytes_eq view.name new.name then new ∷ views else view ∷ put_view new views

@@ -1,0 +1,20 @@
+// Obeys a script of `load` and `dump` lines.
+#![tactic(auto)]
+
+mod causes;
+mod decode;
+mod gathering;
+mod keys;
+mod obeying;
+mod printing;
+mod reader;
+mod requests;
+mod run;
+mod script;
+mod top;
+mod views;
+
+pub use top::{Ending, glide_alone};
+
+#[cfg(test)]
+mod tests;

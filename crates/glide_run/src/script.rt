@@ -1,0 +1,234 @@
+// What the lines of a script ask for.
+ghost use Rattle.std.specs.Prelude.{◌≡◌, ◌<◌, ◌≤◌, ◌==◌, not, map, IfOk, IfSome, length};
+ghost use Rattle.std.specs.List.{filter, slice_split, list_all};
+ghost use Rattle.std.specs.Char.{is_ascii_digit};
+ghost use Rattle.std.specs.Str.Parse.{AllDigits, digits_value};
+ghost use Rattle.glide_run.specs.Script.{trimmed, words, is_name_byte, is_name, is_line_byte, is_comment, side, is_request, is_load, load_of, dump_command, words_command, trimmed_command, line_command};
+ghost use Rattle.glide_run.specs.CodeTypes.{command_by};
+
+use crate::requests::Request;
+use std::alloc::{AllocError, Global};
+
+/// What a line asks for.
+#[derive(Clone, Copy)]
+pub enum Command<'a> {
+    Nothing,
+    Bad,
+    Load(Request<'a>),
+    Dump(&'a [u8]),
+}
+
+fn words_of<'a>(alloc: Global, line: &'a [u8]) -> Result<Vec<&'a [u8]>, AllocError>
+    ensures { IfOk result (λ v. map (λ w. w.now) v.items ≡ words line.now) }
+{
+    line.split(|b| *b == b' ')
+        .filter(|word| !word.is_empty())
+        .collect(alloc)
+}
+
+fn is_name_byte(b: u8) -> bool
+    ensures { result ≡ is_name_byte b }
+{
+    b.is_ascii_alphanumeric() || b == b'_' || b == b'-' || b == b'.'
+}
+
+fn are_name_bytes(word: &[u8]) -> bool
+    ensures { result ≡ list_all is_name_byte word.now }
+{
+    word.iter().all(|b| is_name_byte(*b))
+}
+
+fn is_name(word: &[u8]) -> bool
+    ensures { result ≡ is_name word.now }
+{
+    if word.is_empty() {
+        return false;
+    }
+    if word.len() > 32 {
+        return false;
+    }
+    are_name_bytes(word)
+}
+
+fn is_line_byte(b: u8) -> bool
+    ensures { result ≡ is_line_byte b }
+{
+    32 <= b && b <= 126
+}
+
+fn are_line_bytes(line: &[u8]) -> bool
+    ensures { result ≡ list_all is_line_byte line.now }
+{
+    line.iter().all(|b| is_line_byte(*b))
+}
+
+fn are_digits(word: &[u8]) -> bool
+    ensures { result ≡ list_all is_ascii_digit word.now }
+{
+    word.iter().all(|b| b.is_ascii_digit())
+}
+
+// The number that the digits spell.
+fn value_of(digits: &[u8]) -> u32
+    requires digits { AllDigits 10 digits.now }
+    requires few { digits_value 10 digits.now < 100000 }
+    ensures { result ≡ digits_value 10 digits.now }
+{
+    let mut value = 0;
+    for digit in digits {
+        value = value * 10 + u32::from(*digit - b'0');
+    }
+    value
+}
+
+// A wanted side in pixels.
+fn side_of(word: &[u8]) -> Option<u32>
+    ensures side { result ≡ side word.now }
+    ensures some { IfSome result (λ number. 1 ≤ number) }
+{
+    if word.is_empty() {
+        return None;
+    }
+    if !are_digits(word) {
+        return None;
+    }
+    if word.len() > 5 {
+        return None;
+    }
+    if word[0] == b'0' {
+        return None;
+    }
+    let value = value_of(word);
+    if value == 0 {
+        return None;
+    }
+    if value > 16_384 {
+        return None;
+    }
+    Some(value)
+}
+
+// Whether the words round a load's request are its own.
+fn is_load(verb: &[u8], transform: &[u8], config: &[u8]) -> bool
+    ensures { result ≡ is_load verb.now transform.now config.now }
+{
+    if verb != b"load".as_slice() {
+        return false;
+    }
+    if transform != b"none".as_slice() {
+        return false;
+    }
+    config == b"argb".as_slice()
+}
+
+fn is_request(view: &[u8], url: &[u8], sig: &[u8]) -> bool
+    ensures { result ≡ is_request view.now url.now sig.now }
+{
+    if !is_name(view) {
+        return false;
+    }
+    if url.len() > 1024 {
+        return false;
+    }
+    sig.len() <= 64
+}
+
+fn load_of<'a>(
+    view: &'a [u8],
+    url: &'a [u8],
+    sig: &'a [u8],
+    width: &[u8],
+    height: &[u8],
+) -> Command<'a>
+    ensures { command_by result ≡ load_of view.now url.now sig.now (side width.now) (side height.now) }
+{
+    let Some(width) = side_of(width) else {
+        return Command::Bad;
+    };
+    let Some(height) = side_of(height) else {
+        return Command::Bad;
+    };
+    Command::Load(Request {
+        view,
+        url,
+        sig,
+        width,
+        height,
+    })
+}
+
+fn dump_of<'a>(verb: &[u8], view: &'a [u8]) -> Command<'a>
+    ensures { command_by result ≡ dump_command verb.now view.now }
+{
+    if verb != b"dump".as_slice() {
+        return Command::Bad;
+    }
+    if !is_name(view) {
+        return Command::Bad;
+    }
+    Command::Dump(view)
+}
+
+// What the words ask for.
+fn command_of<'a>(words: &[&'a [u8]]) -> Command<'a>
+    ensures { command_by result ≡ words_command (map (λ w. w.now) words.now) }
+{
+    if words.is_empty() {
+        return Command::Nothing;
+    }
+    if words.len() == 2 {
+        return dump_of(words[0], words[1]);
+    }
+    if words.len() != 8 {
+        return Command::Bad;
+    }
+    if !is_load(words[0], words[6], words[7]) {
+        return Command::Bad;
+    }
+    if !is_request(words[1], words[2], words[3]) {
+        return Command::Bad;
+    }
+    load_of(words[1], words[2], words[3], words[4], words[5])
+}
+
+fn is_comment(words: &[&[u8]]) -> bool
+    ensures { result ≡ is_comment (map (λ w. w.now) words.now) }
+{
+    match words {
+        [word, ..] => word.first() == Some(&b'#'),
+        [] => false,
+    }
+}
+
+// The line without one carriage return at its end.
+fn trimmed(line: &[u8]) -> &[u8]
+    ensures { result.now ≡ trimmed line.now }
+{
+    match line.strip_suffix(b"\r".as_slice()) {
+        Some(front) => front,
+        None => line,
+    }
+}
+
+fn trimmed_command(alloc: Global, line: &[u8]) -> Result<Command<'_>, AllocError>
+    ensures { IfOk result (λ command. command_by command ≡ trimmed_command line.now) }
+{
+    if line.len() > 2048 {
+        return Ok(Command::Bad);
+    }
+    let words = words_of(alloc, line)?;
+    if is_comment(&words) {
+        return Ok(Command::Nothing);
+    }
+    if !are_line_bytes(line) {
+        return Ok(Command::Bad);
+    }
+    Ok(command_of(&words))
+}
+
+/// What a line asks for, without its line feed.
+pub fn line_command(alloc: Global, line: &[u8]) -> Result<Command<'_>, AllocError>
+    ensures { IfOk result (λ command. command_by command ≡ line_command line.now) }
+{
+    trimmed_command(alloc, trimmed(line))
+}
