@@ -1,8 +1,9 @@
--- How the fields of a bitmap are seen.
+-- How the fields of a bitmap are seen. It is this project's own, as the fields are.
 use Rattle.std.specs.Prelude.{◌≤◌, length, take, drop}
 use Rattle.bitmap_kind.specs.Picture.{BitmapValue, stored_size, IsSize}
 use Rattle.bitmap_kind.specs.declared.bitmaps.Bitmap.TheInside.{Inside}
 
+-- the front of its memory is the picture's bytes, and the rest is spare
 abbrev pub value_of : Inside → BitmapValue
 value_of b = record {
   number = b.number;
@@ -11,6 +12,7 @@ value_of b = record {
   spare = drop (stored_size b.width b.height b.config) b.memory.items;
 }
 
+-- what always holds: the size is one that a bitmap may have, and its bytes lie in the memory
 pub record IsWhole (b : Inside) : Type 0 where
   pub size : IsSize b.width b.height
   pub fits : stored_size b.width b.height b.config ≤ length b.memory.items

@@ -1,4 +1,6 @@
--- What contracts see of a bitmap.
+-- What contracts see of a bitmap. Sides, config, allocation and reconfiguring are those of Android's Bitmap
+-- (getAllocationByteCount, reconfigure). The number, the order of the rows, the limit on pixels and the spare bytes are
+-- this project's own.
 use Rattle.std.specs.Prelude.{ℕ, ◌+◌, ◌*◌, ◌≤◌, List, ◌++◌, take, drop}
 use Rattle.std.specs.List.{flat_map}
 use Rattle.bitmap_kind.specs.Stored.{pixel_bytes, overwritten}
@@ -18,6 +20,7 @@ pub record BitmapValue : Type 0 where
   pub picture : Picture
   pub spare : List ℕ
 
+-- how many bytes a picture of these sides has
 abbrev pub stored_size : ℕ → ℕ → Config → ℕ
 stored_size width height config = width * height * pixel_bytes config
 

@@ -4,13 +4,13 @@ use Rattle.std.specs.Prelude.{ℕ, ◌+◌, ◌*◌, ◌/◌, ◌%◌, List, [],
 use Rattle.bitmap_kind.specs.declared.bitmaps.Config.{Config}
 use Rattle.bitmap_kind.specs.declared.bitmaps.Config.TheVariants.{Argb8888, Rgb565, Alpha8}
 
--- how many bytes a pixel takes
+-- how many bytes a pixel takes, as Android's configs have it
 abbrev pub pixel_bytes : Config → ℕ
 pixel_bytes Argb8888 = 4
 pixel_bytes Rgb565 = 2
 pixel_bytes Alpha8 = 1
 
--- The high 5 bits of red, then the high 6 of green, then the high 5 of blue: 16 bits.
+-- The high 5 bits of red, then the high 6 of green, then the high 5 of blue: 16 bits, as in Android's RGB_565.
 abbrev pub rgb565_word : ℕ → ℕ → ℕ → ℕ
 rgb565_word r g b = r / 8 * 2048 + g / 4 * 32 + b / 8
 

@@ -10,6 +10,7 @@ use Rattle.ppm_read.specs.declared.fault.PpmFault.TheVariants.{BadMagic, Unbuilt
 use Rattle.ppm_read.specs.declared.header.Head.{Head}
 use Rattle.ppm_read.specs.Reading.{◌>>=◌}
 
+-- `0` to `9`, as ppm(5) writes its numbers
 abbrev pub is_digit : ℕ → Bool
 is_digit = is_ascii_digit
 

@@ -1,4 +1,5 @@
--- Which texts are pictures, which pixels they have, and what is wrong with any other text.
+-- Which texts are pictures, which pixels they have, and what is wrong with any other text: Netpbm's ppm(5), in the one
+-- spelling that is read. The names of what is wrong are this project's own.
 use Rattle.std.specs.Prelude.{◌≡◌, ℕ, ◌*◌, ◌<◌, ◌≤◌, true, false, List, ◌∷◌, ◌++◌, length, take, decimal, Ok, Err, Result}
 use Rattle.ppm_read.specs.declared.fault.PpmFault.{PpmFault}
 use Rattle.ppm_read.specs.declared.fault.PpmFault.TheVariants.{BadMagic, Unbuilt, Truncated}

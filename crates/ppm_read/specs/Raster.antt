@@ -1,4 +1,5 @@
--- The rows of a raster: in Netpbm's ppm(5) they come from the top, each from the left, three bytes a pixel.
+-- The rows of a raster: in Netpbm's ppm(5) they come from the top, each from the left, three bytes a pixel. That they are
+-- given one by one, each as red, green, blue and alpha, and what a call leaves, are this project's own.
 use Rattle.std.specs.Prelude.{◌≡◌, ℕ, zero, suc, ◌*◌, nat_lt, List, [], ◌∷◌, length, take, drop, if◌then◌else◌, Ok, Err, Some, None, Result, Bool, true, false, ⊤}
 use Rattle.std.specs.declared.option.Option.{Option}
 use Rattle.ppm_read.specs.declared.fault.PpmFault.{PpmFault}
@@ -15,6 +16,7 @@ pub record RowsLeft : Type 0 where
   pub rows : List (List ℕ)
   pub fault : Option PpmFault
 
+-- a row before those that are left
 abbrev pub with_row : List ℕ → RowsLeft → RowsLeft
 with_row row left = record left { rows = row ∷ left.rows }
 

@@ -1,4 +1,4 @@
--- What contracts see of rows that are sampled one after the other.
+-- What contracts see of rows that are sampled one after the other. It is this project's own.
 use Rattle.std.specs.Prelude.{◌≡◌, ℕ, ◌+◌, ◌-◌, ◌*◌, ◌<◌, List, Bool, length, sum, slice_index}
 use Rattle.sampling.specs.Sampled.{sampled_side, block_side, block_at}
 

@@ -1,10 +1,11 @@
--- The fields behind sampled rows, and what always holds of them.
+-- The fields behind sampled rows, and what always holds of them. It is this project's own.
 use Rattle.std.specs.Prelude.{◌≡◌, ℕ, ◌+◌, ◌-◌, ◌*◌, ◌/◌, ◌<◌, ◌≤◌, Bool, true, false, length, min, slice_index}
 use Rattle.sampling.specs.Sampled.{sampled_side}
 use Rattle.sampling.specs.SumsView.{lanes_of, limit_of}
 use Rattle.sampling.specs.BoxValue.{BoxValue}
 use Rattle.sampling.specs.declared.box_rows.BoxRows.TheInside.{Inside}
 
+-- the fields, as contracts see them
 abbrev pub value_of : Inside → BoxValue
 value_of b = record {
   width = b.width;

@@ -1,4 +1,4 @@
--- Sums of blocks kept in lanes, four a block (red, green, blue, alpha).
+-- Sums of blocks kept in lanes, four a block (red, green, blue, alpha). They are this project's own, as block means are.
 use Rattle.std.specs.Prelude.{◌≡◌, ℕ, ◌+◌, ◌*◌, ◌/◌, ◌<◌, List, length, map, sum, slice_index, replicate}
 use Rattle.std.specs.List.{range_with_len}
 

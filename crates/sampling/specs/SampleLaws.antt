@@ -1,4 +1,5 @@
--- What a sample is for, in terms of the sides that it gives.
+-- What a sample is for, in terms of the sides that it gives. Glide's DownsampleStrategy says so of AT_LEAST and AT_MOST
+-- in words; that it holds of block means and of every source is this project's own law.
 use Rattle.std.specs.Prelude.{ℕ, ◌*◌, ◌/◌, ◌<◌, ◌≤◌, ◌⊎◌}
 use Rattle.std.specs.Int.{IsPowerOfTwo}
 use Rattle.bitmap_kind.specs.declared.bitmaps.Rule.{Rule}
@@ -15,6 +16,7 @@ pub record Covers (size other : ℕ × ℕ) : Type 0 where
   pub wide : other.0 ≤ size.0
   pub high : other.1 ≤ size.1
 
+-- each sample is a power of two
 abbrev pub EachSampleIsAPower : Type 0
 EachSampleIsAPower = (source wanted : ℕ × ℕ) (rule : Rule) → IsSize source → IsSize wanted → IsPowerOfTwo (sample_of source wanted rule)
 

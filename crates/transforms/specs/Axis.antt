@@ -1,7 +1,8 @@
--- A line of pixels at one scale.
+-- A line of pixels at one scale. It is this project's own: columns and rows of every transform are computed by it.
 use Rattle.std.specs.Prelude.{ℕ, ◌+◌, ◌*◌, ◌/◌, ◌<◌, ◌^◌, ◌≡◌}
 use Rattle.transforms.specs.declared.axes.Axis.{Axis}
 
+-- the place of a pixel, from its number
 abbrev pub axis_place : Axis → ℕ → ℕ
 axis_place axis k = ((2 * k + 1) * axis.scale + axis.shift) / axis.unit
 

@@ -1,4 +1,5 @@
--- Boxes of pixels, and pictures that fill theirs.
+-- Boxes of pixels, and pictures that fill theirs: the words of the laws on Glide's fit, crop and inside. They are this
+-- project's own.
 use Rattle.std.specs.Prelude.{ℕ, ◌+◌, ◌≤◌, ◌≡◌, ◌⊎◌, length}
 use Rattle.bitmap_kind.specs.Picture.{Picture, stored_size}
 

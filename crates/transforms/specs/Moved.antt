@@ -1,4 +1,5 @@
--- The picture that a transform makes.
+-- The picture that a transform makes. The transforms are Glide's; that each pixel is one of the source, and none a mixture,
+-- is this project's own.
 use Rattle.std.specs.Prelude.{ℕ, List}
 use Rattle.std.specs.List.{flat_map, range_with_len}
 use Rattle.bitmap_kind.specs.declared.bitmaps.Transform.{Transform}

@@ -1,5 +1,6 @@
 -- The size of the target, and the place in the source that each of its pixels comes from.
--- A source of w by h, and wanted are W by H.
+-- A source of w by h, and wanted are W by H. What fit, crop and inside keep of a picture is Glide's
+-- (TransformationUtils); which way a half is rounded, and the place of a pixel, are this project's own.
 use Rattle.std.specs.Prelude.{ℕ, ◌+◌, ◌-◌, ◌*◌, ◌/◌, nat_le, nat_lt, max, Bool, ◌&&◌, if◌then◌else◌}
 use Rattle.bitmap_kind.specs.declared.bitmaps.Transform.{Transform}
 use Rattle.bitmap_kind.specs.declared.bitmaps.Transform.TheVariants.{Nothing, Fit, Crop, Inside}
@@ -15,6 +16,7 @@ fitted w h W H = if nat_le (W * h) (H * w)
 abbrev pub lies_inside : ℕ → ℕ → ℕ → ℕ → Bool
 lies_inside w h W H = nat_le w W && nat_le h H
 
+-- the size of what each transform makes
 abbrev pub target_size : ℕ → ℕ → Transform → ℕ → ℕ → ℕ × ℕ
 target_size w h Nothing W H = (w, h)
 target_size w h Fit W H = fitted w h W H

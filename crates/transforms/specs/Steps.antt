@@ -1,4 +1,4 @@
--- What is done of a picture that is moved.
+-- What is done of a picture that is moved. It is this project's own, and only this crate's calls say it.
 use Rattle.std.specs.Prelude.{ℕ, ◌+◌, ◌<◌, ◌≡◌, length}
 use Rattle.bitmap_kind.specs.Picture.{Picture, BitmapValue, pixel_at}
 
