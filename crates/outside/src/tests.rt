@@ -1,5 +1,10 @@
 // What no clause says: that calls succeed with ample memory, which call a number names, and what the
 // system's files answer.
+ghost use Rattle.std.specs.Prelude.{◌≡◌, ◌∷◌, [], codes, Some, None, true, false};
+ghost use Rattle.std.specs.FinMap.{get};
+ghost use Rattle.outside.specs.FolderPath.{is_path};
+ghost use Rattle.outside.specs.Texts.{ContentBytes, contents_of};
+
 use crate::{
     Content, Failed, FetchFault, FolderSource, Input, LONGEST_FILE, MemoryInput, MemorySink,
     MemorySource, RealInput, RealSink, Sink, Source, WriteFault,
@@ -9,6 +14,24 @@ use std::fs::OpenFile;
 use std::io::{BufRead, Lines};
 use std::test::Fail;
 use std::{fs, io, process};
+
+// The definitions themselves on worked urls, computed where the tests are proved.
+fn worked_paths()
+    ensures file { is_path (codes "images/red-1_0.ppm") ≡ true }
+    ensures above { is_path (codes "images/../long") ≡ false }
+    ensures here { is_path (codes "./long") ≡ false }
+    ensures rooted { is_path (codes "/long") ≡ false }
+    ensures folder { is_path (codes "long/") ≡ false }
+    ensures star { is_path (codes "lo*g") ≡ false }
+    ensures empty { is_path [] ≡ false }
+{}
+
+// And on worked texts: of two at one address the first counts.
+fn worked_contents()
+    ensures found { get (contents_of (record { url = codes "red"; sig = codes "1"; bytes = 1 ∷ [] } ∷ record { url = codes "red"; sig = codes "2"; bytes = 2 ∷ [] } ∷ [])) (codes "red", codes "2") ≡ Some (2 ∷ []) }
+    ensures first { get (contents_of (record { url = codes "red"; sig = codes "1"; bytes = 1 ∷ [] } ∷ record { url = codes "red"; sig = codes "1"; bytes = 2 ∷ [] } ∷ [])) (codes "red", codes "1") ≡ Some (1 ∷ []) }
+    ensures missing { get (contents_of (record { url = codes "red"; sig = codes "1"; bytes = 1 ∷ [] } ∷ [])) (codes "red", codes "2") ≡ None }
+{}
 
 #[test]
 fn memory_input_fails_at_its_second_call(rt: HostRuntime) -> Result<(), Fail> {

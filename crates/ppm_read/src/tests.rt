@@ -1,5 +1,19 @@
 // Texts with their outcomes, worked by hand from the rules.
+ghost use Rattle.std.specs.Prelude.{◌≡◌, ◌∷◌, ◌++◌, [], codes, Ok, Err};
+ghost use Rattle.ppm_read.specs.Full.{full_picture};
+
 use super::*;
+
+// The definition itself on worked texts, computed where the tests are proved. The first is a red pixel and a blue one.
+fn worked_texts()
+    ensures whole { full_picture (codes "P6" ++ 10 ∷ codes "2 1" ++ 10 ∷ codes "255" ++ 10 ∷ 255 ∷ 0 ∷ 0 ∷ 0 ∷ 0 ∷ 255 ∷ [])
+        ≡ Ok record { width = 2; height = 1; pixels = 255 ∷ 0 ∷ 0 ∷ 255 ∷ 0 ∷ 0 ∷ 255 ∷ 255 ∷ [] } }
+    ensures bytes_behind { full_picture (codes "P6" ++ 10 ∷ codes "1 1" ++ 10 ∷ codes "255" ++ 10 ∷ 1 ∷ 2 ∷ 3 ∷ 4 ∷ [])
+        ≡ Ok record { width = 1; height = 1; pixels = 1 ∷ 2 ∷ 3 ∷ 255 ∷ [] } }
+    ensures short { full_picture (codes "P6" ++ 10 ∷ codes "1 2" ++ 10 ∷ codes "255" ++ 10 ∷ 1 ∷ 2 ∷ 3 ∷ 4 ∷ 5 ∷ []) ≡ Err PpmFault.Truncated }
+    ensures leading_zero { full_picture (codes "P6" ++ 10 ∷ codes "01 1" ++ 10 ∷ codes "255" ++ 10 ∷ 1 ∷ 2 ∷ 3 ∷ []) ≡ Err PpmFault.Unbuilt }
+    ensures unknown { full_picture (codes "hello") ≡ Err PpmFault.BadMagic }
+{}
 
 // A header's size, or its fault.
 fn size_of(text: &[u8]) -> Result<(u32, u32), PpmFault> {

@@ -1,6 +1,22 @@
+// Samples and means that were worked by hand.
+ghost use Rattle.std.specs.Prelude.{◌≡◌, ◌∷◌, []};
+ghost use Rattle.sampling.specs.Sample.{sample_of};
+ghost use Rattle.sampling.specs.Sampled.{sampled_picture};
+
 use super::*;
 use bitmap_kind::Rule;
 use std::test::Fail;
+
+// The definitions themselves on worked sizes and pixels, computed where the tests are proved. The last are the grey levels
+// 0 1 2 4 and 3 0 5 6: their sums are 4 and 17.
+fn worked_samples()
+    ensures at_least { sample_of (400, 300) (100, 100) Rule.AtLeast ≡ 2 }
+    ensures at_most { sample_of (400, 300) (100, 100) Rule.AtMost ≡ 4 }
+    ensures next_power { sample_of (5, 5) (2, 2) Rule.AtMost ≡ 4 }
+    ensures small { sample_of (1, 1) (7, 5) Rule.AtLeast ≡ 1 }
+    ensures means { sampled_picture 4 2 2 (0 ∷ 0 ∷ 0 ∷ 255 ∷ 1 ∷ 1 ∷ 1 ∷ 255 ∷ 2 ∷ 2 ∷ 2 ∷ 255 ∷ 4 ∷ 4 ∷ 4 ∷ 255
+        ∷ 3 ∷ 3 ∷ 3 ∷ 255 ∷ 0 ∷ 0 ∷ 0 ∷ 255 ∷ 5 ∷ 5 ∷ 5 ∷ 255 ∷ 6 ∷ 6 ∷ 6 ∷ 255 ∷ []) ≡ 1 ∷ 1 ∷ 1 ∷ 255 ∷ 4 ∷ 4 ∷ 4 ∷ 255 ∷ [] }
+{}
 
 #[test]
 fn samples_of_sizes(rt: HostRuntime) {
