@@ -3,6 +3,7 @@ pub mod Parts
 pub mod Lines
 pub mod Putting
 pub mod Gathers
+pub mod Shown
 pub mod Writing
 pub mod Filling
 pub mod Obeys

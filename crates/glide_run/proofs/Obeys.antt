@@ -1,5 +1,5 @@
 -- What a line comes to.
-use Rattle.std.proofs.Common.{◌≡◌, Bool, ℕ, ◌+◌, ◌≤◌, true, false, cond, List, [], ◌∷◌, inl, inr, Ok, Err, Result, Some, None, refl, sym, ap, subst, ◌∙◌, arith, append-nil}
+use Rattle.std.proofs.Common.{◌≡◌, Bool, ℕ, ◌+◌, ◌≤◌, true, false, cond, List, [], ◌∷◌, inl, inr, Ok, Err, Result, Some, None, refl, sym, ap, subst, ◌∙◌, arith}
 use Rattle.std.specs.Prelude.{⊤, MatchOption, is_some}
 use Rattle.std.specs.declared.option.Option.{Option}
 use Rattle.std.specs.Str.{bytes_eq}
@@ -9,11 +9,12 @@ use Rattle.outside.specs.Content.{Address, Contents}
 use Rattle.glide_run.specs.Script.{Key, Command, Nothing, Load, Dump}
 use Rattle.glide_run.specs.Pictures.{Refusal, picture_of}
 use Rattle.glide_run.specs.Views.{State, Running, Complete, Failed, Seen, decoded, fetched, names_of, has_name, named, put_view}
-use Rattle.glide_run.specs.Printed.{line_text, lines_text}
+use Rattle.glide_run.specs.Printed.{Pixels, line_as, lines_as, line_text, lines_text}
 use Rattle.glide_run.specs.Effects.{Gains, WritesFront}
 use Rattle.glide_run.specs.Run.{fetch_state, SettlesAt, Gathers, running_at, running_in}
 use Rattle.glide_run.specs.Obeying.{LoadGives, Done, Stopped}
 use Rattle.glide_run.proofs.Gathers.{gains_none, names-gathered}
+use Rattle.glide_run.proofs.Shown.{one_line}
 use Rattle.glide_run.proofs.Writing.{wrote_as}
 
 -- ---- requests that run
@@ -67,18 +68,16 @@ done_load content command can name key old new w f n e granted p =
 pub stopped_before : (content : Option Contents) (command : Command) (views : List Seen) (w : Option (List ℕ)) (f : List Address) (n : ℕ) → Stopped content command views w w f f n n
 stopped_before content command views w f n = record { failed = []; gains = gains_none content f n; torn = inl (Appends-nil w) }
 
-one_line : (view : Seen) → lines_text (view ∷ []) ≡ line_text view
-one_line view = append-nil (line_text view)
-
 -- a front of a line was written, behind a gather
 pub stopped_torn : (content : Option Contents) (name : List ℕ) (old new : List Seen) (view : Seen) (wo wn : Option (List ℕ)) (fo fn f : List Address) (before now : ℕ) (whole : Type 0)
-    → has_name name (names_of old) ≡ true → Gathers content old f new → named name new ≡ view ∷ [] → Gains content fo fn before now f → WritesFront wo wn (line_text view) whole → Stopped content (Dump name) old wo wn fo fn before now
+    → has_name name (names_of old) ≡ true → Gathers content old f new → named name new ≡ view ∷ [] → Gains content fo fn before now f → WritesFront wo wn (line_text (line_as Pixels view)) whole → Stopped content (Dump name) old wo wn fo fn before now
 stopped_torn content name old new view wo wn fo fn f before now whole has gathers found gains wrote =
-    let w = wrote_as wo wn (line_text view) (lines_text (view ∷ [])) whole (sym (one_line view)) wrote in
+    let line = line_as Pixels view in
+    let w = wrote_as wo wn (line_text line) (lines_text (line ∷ [])) whole (sym (one_line line)) wrote in
     record {
       failed = f;
       gains = gains;
-      torn = inr (view ∷ [], new, (has, gathers, sym found), record { front = w.front; rest = w.rest; parts = w.parts; added = w.added; all = λ e. absurd e });
+      torn = inr (line ∷ [], new, (has, gathers, sym (ap (lines_as Pixels) found)), record { front = w.front; rest = w.rest; parts = w.parts; added = w.added; all = λ e. absurd e });
     }
 
 pub was_named : {X : Type 0} (found : Option X) (has : Bool) (Q : X → Type 0) → MatchOption found (has ≡ false) (λ v. (has ≡ true) × Q v) → is_some found ≡ true → has ≡ true

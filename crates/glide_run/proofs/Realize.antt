@@ -8,9 +8,10 @@ use Rattle.std.specs.FinMap.{get}
 use Rattle.std.proofs.lemmas.List.Sums.{sum_by-append, length-filter}
 use Rattle.outside.specs.Content.{Address, Contents}
 use Rattle.bitmap_kind.specs.Picture.{Picture}
-use Rattle.glide_run.specs.Script.{Key, Command, Nothing, Bad, Load, Dump}
+use Rattle.glide_run.specs.Script.{Key, Command, Nothing, Bad, Load, Dump, Show}
 use Rattle.glide_run.specs.Pictures.{Refusal, picture_of}
 use Rattle.glide_run.specs.Views.{State, Running, Complete, Failed, View, Seen, seen, seen_state, address_of, decoded, fetched, names_of, has_name, can_name, named, put_view}
+use Rattle.glide_run.specs.Printed.{Pixels, Digest, PrintedLine, lines_as}
 use Rattle.glide_run.specs.Walk.{first_mark, other_marks, settled_state, settled, gathered, walk, same_address, same_begin, marked_begins, distinct, begins_at}
 use Rattle.glide_run.specs.Run.{failures_of, fetch_state, SettlesAt, Gathers, Run}
 use Rattle.glide_run.specs.Obeying.{IsBadNext}
@@ -60,6 +61,7 @@ begin_failures marks (Nothing ∷ commands) = begin_failures marks commands
 begin_failures marks (Bad ∷ commands) = begin_failures marks commands
 begin_failures marks (Load view key ∷ commands) = failures_of key (first_mark marks) ++ begin_failures (other_marks marks) commands
 begin_failures marks (Dump view ∷ commands) = begin_failures marks commands
+begin_failures marks (Show ∷ commands) = begin_failures marks commands
 
 abbrev pub count : Address → List Address → ℕ
 count address failed = count_by (λ a. same_address a address) failed
@@ -82,6 +84,7 @@ unmarked_begins (Nothing ∷ commands) = unmarked_begins commands
 unmarked_begins (Bad ∷ commands) = unmarked_begins commands
 unmarked_begins (Load view key ∷ commands) = unmarked_begins commands
 unmarked_begins (Dump view ∷ commands) = unmarked_begins commands
+unmarked_begins (Show ∷ commands) = unmarked_begins commands
 
 -- ---- a view that is put among marked ones
 
@@ -165,8 +168,14 @@ gather_marks texts (v ∷ vs) f (w ∷ ws) p =
 
 -- ---- runs
 
+-- what a line prints, before what those behind it do
+printed_first : (texts : Contents) (first all l ls lines : List PrintedLine) (ws : List Seen) (left : List Command) → l ≡ first → lines ≡ l ++ ls → all ≡ ls ++ walk texts [] (with_marks ws []) left
+    → first ++ all ≡ lines ++ walk texts [] (with_marks ws []) left
+printed_first texts first all l ls lines ws left one parts rest =
+    ap (λ x. first ++ x) rest ∙ sym (append_assoc first ls (walk texts [] (with_marks ws []) left)) ∙ sym (ap (λ x. x ++ walk texts [] (with_marks ws []) left) (parts ∙ ap (λ x. x ++ ls) one))
+
 -- what a run prints, and then what a walk of the commands that are left prints
-pub realize : (texts : Contents) (done left : List Command) (vs lines : List Seen) (f : List Address) (ws : List Seen) → Run (Some texts) vs done lines f ws
+pub realize : (texts : Contents) (done left : List Command) (vs : List Seen) (lines : List PrintedLine) (f : List Address) (ws : List Seen) → Run (Some texts) vs done lines f ws
     → (ms : List Bool) × (marks : List Bool) × (walk texts marks (with_marks vs ms) (done ++ left) ≡ lines ++ walk texts [] (with_marks ws []) left)
     × ((address : Address) → count address (marked_failures vs ms) + count address (begin_failures marks (done ++ left)) ≤ count address f)
 realize texts [] left vs lines f ws p = (
@@ -199,12 +208,21 @@ realize texts (Dump name ∷ done) left vs lines f ws p =
     let then = all.1 rest.0 in (
       all.0,
       rest.1,
-      ap (λ b. cond b (named name (map seen (gathered texts (with_marks vs all.0))) ++ walk texts rest.1 (gathered texts (with_marks vs all.0)) (done ++ left)) []) (ap (has_name name) (names_marks vs all.0) ∙ p.7.0)
-          ∙ ap (λ l. named name (map seen l) ++ walk texts rest.1 l (done ++ left)) then
-          ∙ ap (λ l. named name l ++ walk texts rest.1 (with_marks p.0 rest.0) (done ++ left)) (seen_marks p.0 rest.0)
-          ∙ ap (λ l. named name p.0 ++ l) rest.2
-          ∙ sym (append_assoc (named name p.0) p.2 (walk texts [] (with_marks ws []) left))
-          ∙ sym (ap (λ l. l ++ walk texts [] (with_marks ws []) left) (p.5 ∙ ap (λ l. l ++ p.2) p.7.2)),
+      ap (λ b. cond b (lines_as Pixels (named name (map seen (gathered texts (with_marks vs all.0)))) ++ walk texts rest.1 (gathered texts (with_marks vs all.0)) (done ++ left)) []) (ap (has_name name) (names_marks vs all.0) ∙ p.7.0)
+          ∙ ap (λ l. lines_as Pixels (named name (map seen l)) ++ walk texts rest.1 l (done ++ left)) then
+          ∙ ap (λ l. lines_as Pixels (named name l) ++ walk texts rest.1 (with_marks p.0 rest.0) (done ++ left)) (seen_marks p.0 rest.0)
+          ∙ printed_first texts (lines_as Pixels (named name p.0)) (walk texts rest.1 (with_marks p.0 rest.0) (done ++ left)) p.1 p.2 lines ws left p.7.2 p.5 rest.2,
+      λ address. omega (arith, rest.3 address, ap (count address) all.2, ap (count address) p.6, count-append address p.3 p.4),
+    )
+realize texts (Show ∷ done) left vs lines f ws p =
+    let rest = realize texts done left p.0 p.2 p.4 ws p.8 in
+    let all = gather_marks texts vs p.3 p.0 p.7.0 in
+    let then = all.1 rest.0 in (
+      all.0,
+      rest.1,
+      ap (λ l. lines_as Digest (map seen l) ++ walk texts rest.1 l (done ++ left)) then
+          ∙ ap (λ l. lines_as Digest l ++ walk texts rest.1 (with_marks p.0 rest.0) (done ++ left)) (seen_marks p.0 rest.0)
+          ∙ printed_first texts (lines_as Digest p.0) (walk texts rest.1 (with_marks p.0 rest.0) (done ++ left)) p.1 p.2 lines ws left p.7.1 p.5 rest.2,
       λ address. omega (arith, rest.3 address, ap (count address) all.2, ap (count address) p.6, count-append address p.3 p.4),
     )
 
@@ -216,7 +234,8 @@ walk_bad texts marks vs (Bad ∷ left) p = refl
 walk_bad texts marks vs (Load name key ∷ left) p =
     ap (λ b. cond b (walk texts (other_marks marks) (put_view (marked (begun name key) (first_mark marks)) (with_marks vs [])) left) []) (ap (can_name name) (names_marks vs []) ∙ p)
 walk_bad texts marks vs (Dump name ∷ left) p =
-    ap (λ b. cond b (named name (map seen (gathered texts (with_marks vs []))) ++ walk texts marks (gathered texts (with_marks vs [])) left) []) (ap (has_name name) (names_marks vs []) ∙ p)
+    ap (λ b. cond b (lines_as Pixels (named name (map seen (gathered texts (with_marks vs [])))) ++ walk texts marks (gathered texts (with_marks vs [])) left) []) (ap (has_name name) (names_marks vs []) ∙ p)
+walk_bad texts marks vs (Show ∷ left) p = absurd p
 
 -- ---- the licence
 
@@ -233,6 +252,7 @@ counted_begins address gathers marks (Bad ∷ commands) = counted_begins address
 counted_begins address gathers marks (Load view key ∷ commands) =
     counted_at (first_mark marks) address gathers key (marked_begins gathers (other_marks marks) commands) (begin_failures (other_marks marks) commands) (counted_begins address gathers (other_marks marks) commands)
 counted_begins address gathers marks (Dump view ∷ commands) = counted_begins address (gathers + 1) marks commands
+counted_begins address gathers marks (Show ∷ commands) = counted_begins address (gathers + 1) marks commands
 
 distinct_at : (b : Bool) (x : ℕ × Key) (xs ys : List (ℕ × Key)) → length ys ≤ length xs → length (cond b ys (x ∷ ys)) ≤ length (x ∷ xs)
 distinct_at true x xs ys le = omega arith

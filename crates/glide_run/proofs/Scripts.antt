@@ -14,24 +14,25 @@ use Rattle.glide_run.specs.declared.reader.Next.TheVariants.{Line, Last, End, To
 use Rattle.glide_run.specs.declared.run.Obeyed as code_obeyed
 use Rattle.glide_run.specs.declared.run.Obeyed.TheVariants as obeyed
 use Rattle.glide_run.specs.declared.run.Stop.{Stop}
-use Rattle.glide_run.specs.Script.{Command, Nothing, Bad, Load, Dump, line_command, commands_within, commands}
+use Rattle.glide_run.specs.Script.{Command, Nothing, Bad, Load, Dump, Show, line_command, commands_within, commands}
 use Rattle.glide_run.specs.Views.{Seen}
-use Rattle.glide_run.specs.Printed.{line_text, lines_text, says_failed}
+use Rattle.glide_run.specs.Printed.{PrintedLine, lines_text, says_failed}
 use Rattle.glide_run.specs.Walk.{begins_in}
 use Rattle.glide_run.specs.Effects.{Gains, WritesFront}
 use Rattle.glide_run.specs.Run.{Step, IsBad, Run, running_in, begin_in}
 use Rattle.glide_run.specs.Reading.{IsNext, NextGives}
 use Rattle.glide_run.specs.Obeying.{Done, LineGives, Stopped, IsSplit, ScriptGives}
 use Rattle.glide_run.proofs.Gathers.{gains_none, gains_more}
+use Rattle.glide_run.proofs.Shown.{lines-append}
 use Rattle.glide_run.proofs.Writing.{wrote_exactly, wrote_more}
 
 -- ---- runs
 
-step_from : (content : Option Contents) (command : Command) (mid old new lines : List Seen) (f : List Address) → mid ≡ old → Step content mid command lines f new → Step content old command lines f new
+step_from : (content : Option Contents) (command : Command) (mid old new : List Seen) (lines : List PrintedLine) (f : List Address) → mid ≡ old → Step content mid command lines f new → Step content old command lines f new
 step_from content command mid old new lines f e s = subst (λ v. Step content v command lines f new) e s
 
 -- one line more
-pub run_more : (content : Option Contents) (commands : List Command) (command : Command) (old mid new lines l : List Seen) (failed f : List Address)
+pub run_more : (content : Option Contents) (commands : List Command) (command : Command) (old mid new : List Seen) (lines l : List PrintedLine) (failed f : List Address)
     → Run content old commands lines failed mid → Step content mid command l f new → Run content old (commands ++ command ∷ []) (lines ++ l) (failed ++ f) new
 run_more content [] command old mid new lines l failed f p s =
     (new, l, [], f, [], ap (λ x. x ++ l) p.0 ∙ sym (append-nil l), ap (λ x. x ++ f) p.1 ∙ sym (append-nil f), step_from content command mid old new l f p.2 s, (refl, refl, refl))
@@ -47,29 +48,27 @@ run_more content (first ∷ commands) command old mid new lines l failed f p s =
   run_more content commands command p.0 mid new p.2 l p.4 f p.8 s,
 )
 
-pub lines-append : (xs ys : List Seen) → lines_text (xs ++ ys) ≡ lines_text xs ++ lines_text ys
-lines-append [] ys = refl
-lines-append (x ∷ xs) ys = ap (λ l. line_text x ++ l) (lines-append xs ys) ∙ sym (append_assoc (line_text x) (lines_text xs) (lines_text ys))
-
 pub begins-append : (xs ys : List Command) → begins_in (xs ++ ys) ≡ begins_in xs + begins_in ys
 begins-append [] ys = omega arith
 begins-append (Nothing ∷ xs) ys = begins-append xs ys
 begins-append (Bad ∷ xs) ys = begins-append xs ys
 begins-append (Load view key ∷ xs) ys = omega (arith, begins-append xs ys)
 begins-append (Dump view ∷ xs) ys = begins-append xs ys
+begins-append (Show ∷ xs) ys = begins-append xs ys
 
 begins-first : (command : Command) (commands : List Command) → begins_in (command ∷ commands) ≡ begin_in command + begins_in commands
 begins-first Nothing commands = omega arith
 begins-first Bad commands = omega arith
 begins-first (Load view key) commands = omega arith
 begins-first (Dump view) commands = omega arith
+begins-first Show commands = omega arith
 
 -- ---- so far
 
 -- the lines that were obeyed so far, and what they left
 pub record SoFar (content : Option Contents) (opened before : Option (List Command)) (number : ℕ) (failing : Bool) (views : List Seen) (wo wn : Option (List ℕ)) (fo fn : List Address) (b n to tn : ℕ) : Type 0 where
   pub done : List Command
-  pub lines : List Seen
+  pub lines : List PrintedLine
   pub failed : List Address
   pub run : Run content [] done lines failed views
   pub told : IsSplit opened done before
@@ -108,7 +107,7 @@ split_more (Some all) None after done command p q = absurd p
 split_more (Some all) (Some left) None done command p q = absurd q
 split_more (Some all) (Some left) (Some rest) done command p q = p ∙ ap (λ l. done ++ l) q ∙ sym (append_assoc done (command ∷ []) rest)
 
-any_more : (a b : Bool) (xs ys : List Seen) → a ≡ list_any says_failed xs → b ≡ list_any says_failed ys → (a || b) ≡ list_any says_failed (xs ++ ys)
+any_more : (a b : Bool) (xs ys : List PrintedLine) → a ≡ list_any says_failed xs → b ≡ list_any says_failed ys → (a || b) ≡ list_any says_failed (xs ++ ys)
 any_more a b xs ys p q = (λ i. p i || q i) ∙ sym (list_any-append says_failed xs ys)
 
 -- one line more
@@ -223,7 +222,7 @@ ends_before content opened before number failing stop views wo wn fo fn b n to t
 
 torn_end : (content : Option Contents) (opened before : Option (List Command)) (number : ℕ) (failing : Bool) (stop : Stop) (command : Command) (views : List Seen) (wo w wn : Option (List ℕ)) (fo f fn g : List Address) (b m n to t : ℕ)
     → SoFar content opened before number failing views wo w fo f b m to t → HasNext before command → Gains content f fn m n g
-    → Appends w wn [] ⊎ ((lines : List Seen) × (new : List Seen) × Step content views command lines g new × WritesFront w wn (lines_text lines) ⊥) → ScriptGives content opened (Err stop) wo wn fo fn b n
+    → Appends w wn [] ⊎ ((lines : List PrintedLine) × (new : List Seen) × Step content views command lines g new × WritesFront w wn (lines_text lines) ⊥) → ScriptGives content opened (Err stop) wo wn fo fn b n
 torn_end content opened before number failing stop command views wo w wn fo f fn g b m n to t p next gains (inl none) = record {
   done = p.done;
   left = command ∷ rest_of before command next;

@@ -14,9 +14,12 @@ use Rattle.glide_run.specs.declared.keys.EngineKey.{EngineKey}
 use Rattle.glide_run.specs.declared.views.ViewState.{ViewState}
 use Rattle.glide_run.specs.declared.views.ViewState.TheVariants as states
 use Rattle.glide_run.specs.declared.views.View as code_view
-use Rattle.glide_run.specs.Script.{Key, Command, Nothing, Bad, Load, Dump}
+use Rattle.glide_run.specs.declared.printing.Form as code_form
+use Rattle.glide_run.specs.declared.printing.Form.TheVariants as forms
+use Rattle.glide_run.specs.Script.{Key, Command, Nothing, Bad, Load, Dump, Show}
 use Rattle.glide_run.specs.Pictures.{Refusal, Unknown, refusal_of}
 use Rattle.glide_run.specs.Views.{Cause, Missing, Refused, Source, Memory, Uncached, State, Running, Complete, Failed, Seen}
+use Rattle.glide_run.specs.Printed.{Form, Pixels, Digest}
 
 abbrev pub refusal_by : code_refusal.Refusal → Refusal
 refusal_by refusals.Unknown = Unknown
@@ -40,6 +43,7 @@ command_by commands.Nothing = Nothing
 command_by commands.Bad = Bad
 command_by (commands.Load request) = Load request.view.now (request_key request)
 command_by (commands.Dump view) = Dump view.now
+command_by commands.Show = Show
 
 abbrev pub state_by : ViewState → State ⊤
 state_by states.Running = Running tt
@@ -51,6 +55,10 @@ view_by view = record { name = view.name; key = key_by view.key; state = state_b
 
 abbrev pub views_by : List code_view.View → List Seen
 views_by views = map view_by views
+
+abbrev pub form_by : code_form.Form → Form
+form_by forms.Pixels = Pixels
+form_by forms.Digest = Digest
 
 -- What was decoded is this picture, or this refusal comes, unless memory is wanting.
 abbrev pub Decodes : Result BitmapValue DecodeFault → Result Picture Refusal → Type 0

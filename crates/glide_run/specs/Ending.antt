@@ -7,7 +7,7 @@ use Rattle.outside.specs.Content.{Address, Contents}
 use Rattle.glide_run.specs.declared.run.Ended.{Ended}
 use Rattle.glide_run.specs.Script.{Command}
 use Rattle.glide_run.specs.Views.{Seen}
-use Rattle.glide_run.specs.Printed.{bad_line_text, run_text, says_failed_source}
+use Rattle.glide_run.specs.Printed.{PrintedLine, bad_line_text, run_text, says_failed_source}
 use Rattle.glide_run.specs.Walk.{bad_line, walk, output, status_of, IsLicensed}
 use Rattle.glide_run.specs.Effects.{WritesFront}
 use Rattle.glide_run.specs.Run.{Run}
@@ -28,7 +28,7 @@ pub record IsWalk (content : Contents) (commands : List Command) (status : ℕ) 
 pub record IsShown (content : Option Contents) (commands : Option (List Command)) (status : ℕ) (wo wn : Option (List ℕ)) (before now : ℕ) : Type 0 where
   pub done : List Command
   pub left : List Command
-  pub lines : List Seen
+  pub lines : List PrintedLine
   pub failed : List Address
   pub views : List Seen
   pub bad : Option ℕ

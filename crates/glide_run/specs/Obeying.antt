@@ -10,7 +10,7 @@ use Rattle.glide_run.specs.declared.run.Stop.{Stop}
 use Rattle.glide_run.specs.declared.run.Ended.{Ended}
 use Rattle.glide_run.specs.Script.{Key, Command}
 use Rattle.glide_run.specs.Views.{Running, Seen, names_of, can_name, put_view}
-use Rattle.glide_run.specs.Printed.{lines_text, says_failed}
+use Rattle.glide_run.specs.Printed.{PrintedLine, lines_text, says_failed}
 use Rattle.glide_run.specs.Effects.{Gains, WritesFront}
 use Rattle.glide_run.specs.Run.{Step, IsBad, Run}
 
@@ -21,7 +21,7 @@ LoadGives false name key old new = (can_name name (names_of old) ≡ false) × (
 
 -- A line was obeyed, whole.
 pub record Done (content : Option Contents) (command : Command) (failing : Bool) (old new : List Seen) (wo wn : Option (List ℕ)) (fo fn : List Address) (before now : ℕ) : Type 0 where
-  pub lines : List Seen
+  pub lines : List PrintedLine
   pub failed : List Address
   pub step : Step content old command lines failed new
   pub wrote : Appends wo wn (lines_text lines)
@@ -32,7 +32,7 @@ pub record Done (content : Option Contents) (command : Command) (failing : Bool)
 pub record Stopped (content : Option Contents) (command : Command) (old : List Seen) (wo wn : Option (List ℕ)) (fo fn : List Address) (before now : ℕ) : Type 0 where
   pub failed : List Address
   pub gains : Gains content fo fn before now failed
-  pub torn : Appends wo wn [] ⊎ ((lines : List Seen) × (new : List Seen) × Step content old command lines failed new × WritesFront wo wn (lines_text lines) ⊥)
+  pub torn : Appends wo wn [] ⊎ ((lines : List PrintedLine) × (new : List Seen) × Step content old command lines failed new × WritesFront wo wn (lines_text lines) ⊥)
 
 -- what obeying a line answers
 abbrev pub LineGives : Option Contents → Command → Result code_obeyed.Obeyed Stop → List Seen → List Seen → Option (List ℕ) → Option (List ℕ) → List Address → List Address → ℕ → ℕ → Type 0
@@ -61,7 +61,7 @@ abbrev pub EndsAt : Option ℕ → List Command → List Command → List Seen �
 EndsAt None done left views = left ≡ []
 EndsAt (Some number) done left views = (number ≡ length done + 1) × IsBadNext views left
 
-abbrev pub EndIs : Result Ended Stop → List Command → List Command → List Seen → List Seen → Type 0
+abbrev pub EndIs : Result Ended Stop → List Command → List Command → List PrintedLine → List Seen → Type 0
 EndIs (Ok ended) done left lines views = (ended.failing ≡ list_any says_failed lines) × EndsAt ended.bad done left views
 EndIs (Err stop) done left lines views = ⊤
 
@@ -69,7 +69,7 @@ EndIs (Err stop) done left lines views = ⊤
 pub record ScriptGives (content : Option Contents) (commands : Option (List Command)) (result : Result Ended Stop) (wo wn : Option (List ℕ)) (fo fn : List Address) (before now : ℕ) : Type 0 where
   pub done : List Command
   pub left : List Command
-  pub lines : List Seen
+  pub lines : List PrintedLine
   pub failed : List Address
   pub more : List Address
   pub views : List Seen

@@ -1,10 +1,14 @@
 -- The printed lines. Their texts are this project's own; docs/SCRIPT.md has them in a table.
-use Rattle.std.specs.Prelude.{ℕ, Bool, true, false, List, [], ◌∷◌, ◌++◌, Some, None, codes}
+use Rattle.std.specs.Prelude.{ℕ, Bool, true, false, List, [], ◌∷◌, ◌++◌, map, Some, None, codes}
 use Rattle.std.specs.declared.option.Option.{Option}
 use Rattle.std.specs.Fmt.{decimal}
 use Rattle.hex.specs.Hex.{encode_lower}
+use Rattle.sha2.specs.Sha256.{sha256}
+use Rattle.bitmap_kind.specs.declared.bitmaps.Config.{Config}
+use Rattle.bitmap_kind.specs.declared.bitmaps.Config.TheVariants.{Argb8888, Rgb565, Alpha8}
+use Rattle.bitmap_kind.specs.Picture.{Picture}
 use Rattle.glide_run.specs.Pictures.{Refusal, Unknown, Unbuilt, Truncated}
-use Rattle.glide_run.specs.Views.{Cause, Missing, Refused, Source, Memory, Uncached, State, Running, Complete, Failed, View}
+use Rattle.glide_run.specs.Views.{Cause, Missing, Refused, Source, Memory, Uncached, State, Running, Complete, Failed, Seen}
 
 abbrev pub refusal_text : Refusal → List ℕ
 refusal_text Unknown = codes "unknown"
@@ -18,40 +22,72 @@ cause_text Source = codes "source"
 cause_text Memory = codes "memory"
 cause_text Uncached = codes "uncached"
 
--- what a dump says of a view: `pixels` and the stored bytes of its picture in lower-case hex, or why it failed
-abbrev pub state_head : {N : Type 0} → State N → List ℕ
-state_head (Running note) = codes "running"
-state_head (Complete picture) = codes "pixels "
-state_head (Failed cause) = codes "failed " ++ cause_text cause
+-- how a line shows a picture: by its pixels, as `dump` prints them, or by its size, config and digest, as `show` does
+pub data Form : Type 0 where
+  Pixels : Form
+  Digest : Form
 
-abbrev pub state_picture : {N : Type 0} → State N → List ℕ
-state_picture (Running note) = []
-state_picture (Complete picture) = encode_lower picture.bytes
-state_picture (Failed cause) = []
+-- a printed line: a view as it is then, in this form
+pub record PrintedLine : Type 0 where
+  pub form : Form
+  pub view : Seen
 
-abbrev pub line_text : {N : Type 0} → View N → List ℕ
-line_text view = view.name ++ 32 ∷ state_head view.state ++ state_picture view.state ++ 10 ∷ []
+abbrev pub line_as : Form → Seen → PrintedLine
+line_as form view = record { form = form; view = view }
 
--- the lines of these views
-abbrev pub lines_text : {N : Type 0} → List (View N) → List ℕ
+abbrev pub lines_as : Form → List Seen → List PrintedLine
+lines_as form views = map (line_as form) views
+
+-- a config as a script's word
+abbrev pub config_word : Config → List ℕ
+config_word Argb8888 = codes "argb"
+config_word Rgb565 = codes "rgb565"
+config_word Alpha8 = codes "alpha"
+
+-- what a line says of a picture before its hex: `pixels`, or `shown`, the width, the height and the config
+abbrev pub picture_head : Form → Picture → List ℕ
+picture_head Pixels picture = codes "pixels "
+picture_head Digest picture = codes "shown " ++ decimal picture.width ++ 32 ∷ decimal picture.height ++ 32 ∷ config_word picture.config ++ 32 ∷ []
+
+-- the bytes whose hex it says: the stored ones, or their SHA-256 (FIPS 180-4)
+abbrev pub picture_bytes : Form → Picture → List ℕ
+picture_bytes Pixels picture = picture.bytes
+picture_bytes Digest picture = sha256 picture.bytes
+
+-- what a line says of a view behind its name, before the hex of its picture, or why it failed
+abbrev pub state_head : {N : Type 0} → Form → State N → List ℕ
+state_head form (Running note) = codes "running"
+state_head form (Complete picture) = picture_head form picture
+state_head form (Failed cause) = codes "failed " ++ cause_text cause
+
+-- the hex of its picture, in lower case
+abbrev pub state_picture : {N : Type 0} → Form → State N → List ℕ
+state_picture form (Running note) = []
+state_picture form (Complete picture) = encode_lower (picture_bytes form picture)
+state_picture form (Failed cause) = []
+
+abbrev pub line_text : PrintedLine → List ℕ
+line_text line = line.view.name ++ 32 ∷ state_head line.form line.view.state ++ state_picture line.form line.view.state ++ 10 ∷ []
+
+abbrev pub lines_text : List PrintedLine → List ℕ
 lines_text [] = []
-lines_text (view ∷ views) = line_text view ++ lines_text views
+lines_text (line ∷ lines) = line_text line ++ lines_text lines
 
 abbrev pub bad_line_text : ℕ → List ℕ
 bad_line_text number = codes "glide: bad script line " ++ decimal number ++ 10 ∷ []
 
--- what a run prints: the lines of the views that were dumped, and then the number of the line that is bad, if one is
-abbrev pub run_text : {N : Type 0} → List (View N) → Option ℕ → List ℕ
-run_text views None = lines_text views
-run_text views (Some number) = lines_text views ++ bad_line_text number
+-- what a run prints: the lines of views, and then the number of the script's line that is bad, if one is
+abbrev pub run_text : List PrintedLine → Option ℕ → List ℕ
+run_text lines None = lines_text lines
+run_text lines (Some number) = lines_text lines ++ bad_line_text number
 
 abbrev pub has_failed : {N : Type 0} → State N → Bool
 has_failed (Running note) = false
 has_failed (Complete picture) = false
 has_failed (Failed cause) = true
 
-abbrev pub says_failed : {N : Type 0} → View N → Bool
-says_failed view = has_failed view.state
+abbrev pub says_failed : PrintedLine → Bool
+says_failed line = has_failed line.view.state
 
 abbrev pub blames_source : {N : Type 0} → State N → Bool
 blames_source (Running note) = false
@@ -63,5 +99,5 @@ blames_source (Failed Memory) = false
 blames_source (Failed Uncached) = false
 
 -- a line `VIEW failed source`
-abbrev pub says_failed_source : {N : Type 0} → View N → Bool
-says_failed_source view = blames_source view.state
+abbrev pub says_failed_source : PrintedLine → Bool
+says_failed_source line = blames_source line.view.state

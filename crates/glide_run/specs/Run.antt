@@ -3,8 +3,9 @@ use Rattle.std.specs.Prelude.{◌≡◌, ℕ, ◌+◌, Bool, true, false, List, 
 use Rattle.std.specs.declared.option.Option.{Option}
 use Rattle.std.specs.FinMap.{get}
 use Rattle.outside.specs.Content.{Address, Contents}
-use Rattle.glide_run.specs.Script.{Key, Command, Nothing, Bad, Load, Dump}
+use Rattle.glide_run.specs.Script.{Key, Command, Nothing, Bad, Load, Dump, Show}
 use Rattle.glide_run.specs.Views.{Source, State, Running, Complete, Failed, Seen, address_of, fetched, names_of, has_name, can_name, named, put_view}
+use Rattle.glide_run.specs.Printed.{Pixels, Digest, PrintedLine, lines_as}
 
 -- ---- one request, and one gather
 
@@ -53,13 +54,14 @@ running_in (view ∷ views) = running_at view.state + running_in views
 
 -- ---- one line, and many
 
--- From old, obeying this prints these views, with these failed fetches, and leaves new.
-abbrev pub Step : Option Contents → List Seen → Command → List Seen → List Address → List Seen → Type 0
+-- From old, obeying this prints these lines, with these failed fetches, and leaves new.
+abbrev pub Step : Option Contents → List Seen → Command → List PrintedLine → List Address → List Seen → Type 0
 Step content old Nothing lines failed new = (lines ≡ []) × (failed ≡ []) × (new ≡ old)
 Step content old Bad lines failed new = ⊥
 Step content old (Load view key) lines failed new =
     (can_name view (names_of old) ≡ true) × (lines ≡ []) × (failed ≡ []) × (new ≡ put_view record { name = view; key = key; state = Running tt } old)
-Step content old (Dump view) lines failed new = (has_name view (names_of old) ≡ true) × Gathers content old failed new × (lines ≡ named view new)
+Step content old (Dump view) lines failed new = (has_name view (names_of old) ≡ true) × Gathers content old failed new × (lines ≡ lines_as Pixels (named view new))
+Step content old Show lines failed new = Gathers content old failed new × (lines ≡ lines_as Digest new)
 
 -- what cannot be obeyed
 abbrev pub IsBad : List Seen → Command → Type 0
@@ -67,12 +69,13 @@ IsBad views Nothing = ⊥
 IsBad views Bad = ⊤
 IsBad views (Load view key) = can_name view (names_of views) ≡ false
 IsBad views (Dump view) = has_name view (names_of views) ≡ false
+IsBad views Show = ⊥
 
 -- These were obeyed one after another.
-abbrev pub Run : Option Contents → List Seen → List Command → List Seen → List Address → List Seen → Type 0
+abbrev pub Run : Option Contents → List Seen → List Command → List PrintedLine → List Address → List Seen → Type 0
 Run content old [] lines failed new = (lines ≡ []) × (failed ≡ []) × (new ≡ old)
 Run content old (command ∷ commands) lines failed new =
-    (mid : List Seen) × (l : List Seen) × (ls : List Seen) × (f : List Address) × (fs : List Address)
+    (mid : List Seen) × (l : List PrintedLine) × (ls : List PrintedLine) × (f : List Address) × (fs : List Address)
     × (lines ≡ l ++ ls) × (failed ≡ f ++ fs) × Step content old command l f mid × Run content mid commands ls fs new
 
 abbrev pub begin_in : Command → ℕ
@@ -80,3 +83,4 @@ begin_in Nothing = 0
 begin_in Bad = 0
 begin_in (Load view key) = 1
 begin_in (Dump view) = 0
+begin_in Show = 0

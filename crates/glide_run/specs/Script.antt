@@ -19,6 +19,7 @@ pub data Command : Type 0 where
   Bad : Command
   Load : (view : List ℕ) (key : Key) → Command
   Dump : (view : List ℕ) → Command
+  Show : Command
 
 -- ---- lines of a text
 
@@ -94,8 +95,12 @@ load_command ws = if is_load (word ws 0) (word ws 6) (word ws 7) && is_request (
 abbrev pub dump_command : List ℕ → List ℕ → Command
 dump_command verb view = if bytes_eq verb (codes "dump") && is_name view then Dump view else Bad
 
+-- `show`
+abbrev pub show_command : List ℕ → Command
+show_command verb = if bytes_eq verb (codes "show") then Show else Bad
+
 abbrev pub words_command : List (List ℕ) → Command
-words_command ws = if length ws == 0 then Nothing else if length ws == 2 then dump_command (word ws 0) (word ws 1) else if length ws == 8 then load_command ws else Bad
+words_command ws = if length ws == 0 then Nothing else if length ws == 1 then show_command (word ws 0) else if length ws == 2 then dump_command (word ws 0) (word ws 1) else if length ws == 8 then load_command ws else Bad
 
 -- a space, or a byte of a word
 abbrev pub is_line_byte : ℕ → Bool

@@ -5,9 +5,9 @@ use Rattle.std.specs.List.{list_any}
 use Rattle.std.specs.Str.{bytes_eq}
 use Rattle.std.specs.FinMap.{get}
 use Rattle.outside.specs.Content.{Address, Contents}
-use Rattle.glide_run.specs.Script.{Key, Command, Nothing, Bad, Load, Dump}
-use Rattle.glide_run.specs.Views.{Source, State, Running, Complete, Failed, View, Seen, seen, address_of, fetched, names_of, has_name, can_name, with_name, named, put_view}
-use Rattle.glide_run.specs.Printed.{run_text, says_failed}
+use Rattle.glide_run.specs.Script.{Key, Command, Nothing, Bad, Load, Dump, Show}
+use Rattle.glide_run.specs.Views.{Source, State, Running, Complete, Failed, View, seen, address_of, fetched, names_of, has_name, can_name, with_name, named, put_view}
+use Rattle.glide_run.specs.Printed.{Pixels, Digest, PrintedLine, lines_as, run_text, says_failed}
 
 -- ---- the first bad line
 
@@ -18,6 +18,7 @@ bad_line_from number names (Nothing ∷ commands) = bad_line_from (number + 1) n
 bad_line_from number names (Bad ∷ commands) = Some number
 bad_line_from number names (Load view key ∷ commands) = if can_name view names then bad_line_from (number + 1) (with_name view names) commands else Some number
 bad_line_from number names (Dump view ∷ commands) = if has_name view names then bad_line_from (number + 1) names commands else Some number
+bad_line_from number names (Show ∷ commands) = bad_line_from (number + 1) names commands
 
 abbrev pub bad_line : List Command → Option ℕ
 bad_line commands = bad_line_from 1 [] commands
@@ -47,8 +48,8 @@ settled content view = record { name = view.name; key = view.key; state = settle
 abbrev pub gathered : Contents → List (View Bool) → List (View Bool)
 gathered content views = map (settled content) views
 
--- the views that are printed, as they are then, up to the first bad line
-abbrev pub walk : Contents → List Bool → List (View Bool) → List Command → List Seen
+-- The lines that are printed, up to the first bad line of the script. A dump prints its view's pixels; a show prints the digests of all views, in order of first load.
+abbrev pub walk : Contents → List Bool → List (View Bool) → List Command → List PrintedLine
 walk content marks views [] = []
 walk content marks views (Nothing ∷ commands) = walk content marks views commands
 walk content marks views (Bad ∷ commands) = []
@@ -57,16 +58,17 @@ walk content marks views (Load view key ∷ commands) =
     then walk content (other_marks marks) (put_view record { name = view; key = key; state = Running (first_mark marks) } views) commands else []
 walk content marks views (Dump view ∷ commands) =
     if has_name view (names_of views)
-    then named view (map seen (gathered content views)) ++ walk content marks (gathered content views) commands else []
+    then lines_as Pixels (named view (map seen (gathered content views))) ++ walk content marks (gathered content views) commands else []
+walk content marks views (Show ∷ commands) = lines_as Digest (map seen (gathered content views)) ++ walk content marks (gathered content views) commands
 
 -- all that a run of the script prints
 abbrev pub output : Contents → List Bool → List Command → List ℕ
 output content marks commands = run_text (walk content marks [] commands) (bad_line commands)
 
 -- the exit status of a run that is not cut short: 3 for a bad line, 1 where a printed line says failed, and else 0
-abbrev pub status_of : List Seen → Option ℕ → ℕ
-status_of views None = if list_any says_failed views then 1 else 0
-status_of views (Some number) = 3
+abbrev pub status_of : List PrintedLine → Option ℕ → ℕ
+status_of lines None = if list_any says_failed lines then 1 else 0
+status_of lines (Some number) = 3
 
 -- ---- the licence of the marks
 
@@ -84,6 +86,7 @@ marked_begins gathers marks (Bad ∷ commands) = marked_begins gathers marks com
 marked_begins gathers marks (Load view key ∷ commands) =
     if first_mark marks then (gathers, key) ∷ marked_begins gathers (other_marks marks) commands else marked_begins gathers (other_marks marks) commands
 marked_begins gathers marks (Dump view ∷ commands) = marked_begins (gathers + 1) marks commands
+marked_begins gathers marks (Show ∷ commands) = marked_begins (gathers + 1) marks commands
 
 abbrev pub same_begin : ℕ × Key → ℕ × Key → Bool
 same_begin a b = a.0 == b.0 && same_key a.1 b.1
@@ -110,3 +113,4 @@ begins_in (Nothing ∷ commands) = begins_in commands
 begins_in (Bad ∷ commands) = begins_in commands
 begins_in (Load view key ∷ commands) = begins_in commands + 1
 begins_in (Dump view ∷ commands) = begins_in commands
+begins_in (Show ∷ commands) = begins_in commands

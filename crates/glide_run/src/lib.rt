@@ -1,4 +1,4 @@
-// Obeys a script of `load` and `dump` lines.
+// Obeys a script of `load`, `dump` and `show` lines.
 #![tactic(auto)]
 
 mod causes;

@@ -1,19 +1,32 @@
-// Prints the line of a view.
+// Prints the lines of views.
 ghost use Rattle.std.specs.Prelude.{◌≡◌, ◌*◌, ◌≤◌, ◌++◌, ◌∷◌, [], IsOk, OnOk, IfOk, codes, length, vec_len};
+ghost use Rattle.std.specs.Fmt.{decimal};
 ghost use Rattle.hex.specs.Hex.{encode_lower};
+ghost use Rattle.sha2.specs.Sha256.{sha256};
 ghost use Rattle.outside.specs.Causes.{HasCause};
-ghost use Rattle.glide_run.specs.Printed.{cause_text, state_head, state_picture, line_text};
+ghost use Rattle.glide_run.specs.Printed.{cause_text, config_word, picture_head, state_head, state_picture, line_as, lines_as, line_text, lines_text};
 ghost use Rattle.glide_run.specs.Effects.{WritesFront};
-ghost use Rattle.glide_run.specs.CodeTypes.{cause_by, state_by, view_by};
+ghost use Rattle.glide_run.specs.CodeTypes.{cause_by, state_by, view_by, views_by, form_by};
 
 use crate::causes::{Cause, Refusal};
 use crate::views::{View, ViewState};
+use bitmap_kind::{Bitmap, Config};
 use outside::{Sink, WriteFault};
 use ppm_read::PpmFault;
+use sha2::{Digest, Sha256};
 use std::alloc::{AllocError, Global};
 
 // How many hex digits of a picture are written at once.
 const DIGITS: usize = 65_536;
+
+/// How a line shows a picture.
+#[derive(Clone, Copy, Debug, PartialEq, Eq)]
+pub enum Form {
+    /// By its pixels, as a `dump` prints it.
+    Pixels,
+    /// By its size, its config and the digest of its stored bytes, as a `show` prints it.
+    Digest,
+}
 
 /// Writes the bytes, or a front of them.
 pub fn write_all<W: Sink>(out: &mut W, bytes: &[u8]) -> Result<(), WriteFault>
@@ -75,6 +88,16 @@ fn write_hex<W: Sink>(alloc: Global, out: &mut W, bytes: &[u8]) -> Result<(), Wr
     }
 }
 
+/// Writes the SHA-256 (FIPS 180-4) of the bytes as lower-case hex, or a front of it.
+pub fn write_digest<W: Sink>(out: &mut W, bytes: &[u8]) -> Result<(), WriteFault>
+    ensures bytes { WritesFront (W.written out.old) (W.written out.new) (encode_lower (sha256 bytes.now)) (IsOk result) }
+    ensures cause { HasCause (W.faults out.old) (W.faults out.new) (result ≡ Err WriteFault.Failed) }
+{
+    let digest = Sha256::digest(bytes);
+    let mut digits = [0u8; 64];
+    write_digits(out, &digest, &mut digits)
+}
+
 // Why a view failed, as its line says it.
 fn cause_text(cause: Cause) -> &'static [u8]
     ensures { result.now ≡ codes "failed " ++ cause_text (cause_by cause) }
@@ -91,64 +114,130 @@ fn cause_text(cause: Cause) -> &'static [u8]
     }
 }
 
-// A view's name, a space and a text.
-fn head_of(alloc: Global, view: &View, text: &[u8]) -> Result<Vec<u8>, AllocError>
-    ensures { IfOk result (λ head. head.items ≡ (view_by view.now).name ++ 32 ∷ text.now) }
+// A config as a script's word.
+fn config_word(config: Config) -> &'static str
+    ensures { result.now ≡ config_word config }
+{
+    match config {
+        Config::Argb8888 => "argb",
+        Config::Rgb565 => "rgb565",
+        Config::Alpha8 => "alpha",
+    }
+}
+
+fn shown_head(alloc: Global, width: u32, height: u32, config: &str) -> Result<Vec<u8>, AllocError>
+    ensures { IfOk result (λ head. head.items ≡ codes "shown " ++ decimal width ++ 32 ∷ decimal height ++ 32 ∷ config.now ++ 32 ∷ []) }
+{
+    let text = format!(in alloc; "shown {width} {height} {config} ")?;
+    Ok(text.into_bytes())
+}
+
+// What a line says of a picture before its hex.
+fn picture_head(alloc: Global, form: Form, bitmap: &Bitmap) -> Result<Vec<u8>, AllocError>
+    ensures { IfOk result (λ head. head.items ≡ picture_head (form_by form) bitmap.now.picture) }
+{
+    match form {
+        Form::Pixels => b"pixels ".to_vec(alloc),
+        Form::Digest => shown_head(
+            alloc,
+            bitmap.width(),
+            bitmap.height(),
+            config_word(bitmap.config()),
+        ),
+    }
+}
+
+// What a view's line says behind its name, but for a picture's hex.
+fn state_head(alloc: Global, form: Form, state: &ViewState) -> Result<Vec<u8>, AllocError>
+    ensures { IfOk result (λ head. head.items ≡ state_head (form_by form) (state_by state.now)) }
+{
+    match state {
+        ViewState::Running => b"running".to_vec(alloc),
+        ViewState::Complete(bitmap) => picture_head(alloc, form, bitmap),
+        ViewState::Failed(cause) => cause_text(*cause).to_vec(alloc),
+    }
+}
+
+// A view's name, a space and what stands behind them, but for a picture's hex.
+fn head_of(alloc: Global, form: Form, view: &View) -> Result<Vec<u8>, AllocError>
+    ensures { IfOk result (λ head. head.items ≡ (view_by view.now).name ++ 32 ∷ state_head (form_by form) (view_by view.now).state) }
 {
     let mut head = view.name.bytes().to_vec(alloc)?;
     head.push(b' ')?;
-    head.extend_from_slice(text)?;
+    let state = state_head(alloc, form, &view.state)?;
+    head.extend_from_slice(&state)?;
     Ok(head)
 }
 
 fn write_head<W: Sink>(
     alloc: Global,
     out: &mut W,
+    form: Form,
     view: &View,
-    text: &[u8],
 ) -> Result<(), WriteFault>
-    ensures bytes { WritesFront (W.written out.old) (W.written out.new) ((view_by view.now).name ++ 32 ∷ text.now) (IsOk result) }
+    ensures bytes { WritesFront (W.written out.old) (W.written out.new) ((view_by view.now).name ++ 32 ∷ state_head (form_by form) (view_by view.now).state) (IsOk result) }
     ensures cause { HasCause (W.faults out.old) (W.faults out.new) (result ≡ Err WriteFault.Failed) }
 {
-    match head_of(alloc, view, text) {
+    match head_of(alloc, form, view) {
         Ok(head) => write_all(out, &head),
         Err(_) => Err(WriteFault::Memory),
     }
 }
 
-// What a view's line says behind its name, but for a picture's bytes.
-fn state_head(state: &ViewState) -> &'static [u8]
-    ensures { result.now ≡ state_head (state_by state.now) }
-{
-    match state {
-        ViewState::Running => b"running",
-        ViewState::Complete(_) => b"pixels ",
-        ViewState::Failed(cause) => cause_text(*cause),
-    }
-}
-
-fn write_picture<W: Sink>(alloc: Global, out: &mut W, state: &ViewState) -> Result<(), WriteFault>
-    ensures bytes { WritesFront (W.written out.old) (W.written out.new) (state_picture (state_by state.now)) (IsOk result) }
+fn write_picture<W: Sink>(
+    alloc: Global,
+    out: &mut W,
+    form: Form,
+    state: &ViewState,
+) -> Result<(), WriteFault>
+    ensures bytes { WritesFront (W.written out.old) (W.written out.new) (state_picture (form_by form) (state_by state.now)) (IsOk result) }
     ensures cause { HasCause (W.faults out.old) (W.faults out.new) (result ≡ Err WriteFault.Failed) }
 {
     match state {
-        ViewState::Complete(bitmap) => write_hex(alloc, out, bitmap.bytes()),
+        ViewState::Complete(bitmap) => match form {
+            Form::Pixels => write_hex(alloc, out, bitmap.bytes()),
+            Form::Digest => write_digest(out, bitmap.bytes()),
+        },
         _ => Ok(()),
     }
 }
 
 /// Writes the line of a view, or a front of it.
-pub fn write_line<W: Sink>(alloc: Global, out: &mut W, view: &View) -> Result<(), WriteFault>
-    ensures bytes { WritesFront (W.written out.old) (W.written out.new) (line_text (view_by view.now)) (IsOk result) }
+pub fn write_line<W: Sink>(
+    alloc: Global,
+    out: &mut W,
+    form: Form,
+    view: &View,
+) -> Result<(), WriteFault>
+    ensures bytes { WritesFront (W.written out.old) (W.written out.new) (line_text (line_as (form_by form) (view_by view.now))) (IsOk result) }
     ensures cause { HasCause (W.faults out.old) (W.faults out.new) (result ≡ Err WriteFault.Failed) }
 {
-    match write_head(alloc, out, view, state_head(&view.state)) {
+    match write_head(alloc, out, form, view) {
         Ok(()) => {}
         Err(fault) => return Err(fault),
     }
-    match write_picture(alloc, out, &view.state) {
+    match write_picture(alloc, out, form, &view.state) {
         Ok(()) => {}
         Err(fault) => return Err(fault),
     }
     write_all(out, b"\n")
+}
+
+/// Writes the lines of views, one after the other, or a front of them.
+pub fn write_lines<W: Sink>(
+    alloc: Global,
+    out: &mut W,
+    form: Form,
+    views: &[View],
+) -> Result<(), WriteFault>
+    ensures bytes { WritesFront (W.written out.old) (W.written out.new) (lines_text (lines_as (form_by form) (views_by views.now))) (IsOk result) }
+    ensures cause { HasCause (W.faults out.old) (W.faults out.new) (result ≡ Err WriteFault.Failed) }
+{
+    for view in views {
+        match write_line(alloc, out, form, view) {
+            Ok(()) => {}
+            Err(fault) => return Err(fault),
+        }
+    }
+    Ok(())
 }

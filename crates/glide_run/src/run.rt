@@ -1,18 +1,19 @@
 // Obeys a script, line by line.
 ghost use Rattle.std.specs.Prelude.{◌≡◌, ◌≤◌, ◌<◌, ◌+◌, ◌++◌, ◌⊎◌, List, [], ◌≢◌, Some, Ok, Err, IsOk, IfOk, OnOk, MatchResult, length};
 ghost use Rattle.std.specs.Option.{option_map};
+ghost use Rattle.std.specs.List.{list_any};
 ghost use Rattle.outside.specs.Causes.{HasCause, Rose};
-ghost use Rattle.glide_run.specs.Script.{Dump, commands_within, line_command, commands};
+ghost use Rattle.glide_run.specs.Script.{Dump, Show, commands_within, line_command, commands};
 ghost use Rattle.glide_run.specs.Views.{Running};
 ghost use Rattle.glide_run.specs.Walk.{begins_in};
 ghost use Rattle.glide_run.specs.Run.{running_in, begin_in};
 ghost use Rattle.glide_run.specs.Obeying.{LoadGives, LineGives, FetchesAtMost, ScriptGives};
 ghost use Rattle.glide_run.specs.CodeTypes.{request_key, command_by, view_by, views_by};
-ghost use Rattle.glide_run.specs.Printed.{has_failed};
+ghost use Rattle.glide_run.specs.Printed.{Digest, lines_as, has_failed, says_failed};
 
 use crate::gathering::gather;
 use crate::keys::{EngineKey, Text};
-use crate::printing::write_line;
+use crate::printing::{Form, write_line, write_lines};
 use crate::requests::Request;
 use crate::script::{Command, line_command};
 use crate::views::{View, ViewState, find, put};
@@ -108,8 +109,39 @@ fn dump<S: Source, W: Sink>(
     let Some(view) = find(views, name) else {
         return Ok(Obeyed::Bad);
     };
-    match write_line(alloc, out, view) {
+    match write_line(alloc, out, Form::Pixels, view) {
         Ok(()) => Ok(Obeyed::Done(has_failed(view))),
+        Err(WriteFault::Failed) => Err(Stop::Write),
+        Err(WriteFault::Memory) => Err(Stop::Memory),
+    }
+}
+
+fn have_failed(views: &[View]) -> bool
+    ensures { result ≡ list_any says_failed (lines_as Digest (views_by views.now)) }
+{
+    views.iter().any(|view| has_failed(view))
+}
+
+// Obeys a `show`: brings every request to its end, and prints each view.
+fn show<S: Source, W: Sink>(
+    alloc: Global,
+    source: &mut S,
+    out: &mut W,
+    views: &mut Vec<View>,
+) -> Result<Obeyed, Stop>
+    ensures gives { LineGives (S.content source.old) Show result (views_by views.old.items) (views_by views.new.items)
+        (W.written out.old) (W.written out.new) (S.failed source.old) (S.failed source.new) (S.faults source.old) (S.faults source.new) }
+    ensures content { S.content source.new ≡ S.content source.old }
+    ensures fetches { FetchesAtMost result (S.fetched source.old) (S.fetched source.new) (running_in (views_by views.old.items)) (running_in (views_by views.new.items)) 0 }
+    ensures cause { HasCause (W.faults out.old) (W.faults out.new) (result ≡ Err Stop.Write) }
+    ensures input { result ≢ Err Stop.Input }
+{
+    match gather(alloc, source, views) {
+        Ok(()) => {}
+        Err(NoMemory) => return Err(Stop::Memory),
+    }
+    match write_lines(alloc, out, Form::Digest, views) {
+        Ok(()) => Ok(Obeyed::Done(have_failed(views))),
         Err(WriteFault::Failed) => Err(Stop::Write),
         Err(WriteFault::Memory) => Err(Stop::Memory),
     }
@@ -139,6 +171,7 @@ fn obey<S: Source, W: Sink>(
             Err(_) => Err(Stop::Memory),
         },
         Command::Dump(name) => dump(alloc, source, out, views, name),
+        Command::Show => show(alloc, source, out, views),
     }
 }
 

@@ -3,7 +3,7 @@ ghost use Rattle.std.specs.Prelude.{◌≡◌, ◌<◌, ◌≤◌, ◌==◌, not
 ghost use Rattle.std.specs.List.{filter, slice_split, list_all};
 ghost use Rattle.std.specs.Char.{is_ascii_digit};
 ghost use Rattle.std.specs.Str.Parse.{AllDigits, digits_value};
-ghost use Rattle.glide_run.specs.Script.{trimmed, words, is_name_byte, is_name, is_line_byte, is_comment, side, is_request, is_load, load_of, dump_command, words_command, trimmed_command, line_command};
+ghost use Rattle.glide_run.specs.Script.{trimmed, words, is_name_byte, is_name, is_line_byte, is_comment, side, is_request, is_load, load_of, dump_command, show_command, words_command, trimmed_command, line_command};
 ghost use Rattle.glide_run.specs.CodeTypes.{command_by};
 
 use crate::requests::Request;
@@ -16,6 +16,7 @@ pub enum Command<'a> {
     Bad,
     Load(Request<'a>),
     Dump(&'a [u8]),
+    Show,
 }
 
 fn words_of<'a>(alloc: Global, line: &'a [u8]) -> Result<Vec<&'a [u8]>, AllocError>
@@ -169,12 +170,24 @@ fn dump_of<'a>(verb: &[u8], view: &'a [u8]) -> Command<'a>
     Command::Dump(view)
 }
 
+fn show_of<'a>(verb: &[u8]) -> Command<'a>
+    ensures { command_by result ≡ show_command verb.now }
+{
+    if verb != b"show".as_slice() {
+        return Command::Bad;
+    }
+    Command::Show
+}
+
 // What the words ask for.
 fn command_of<'a>(words: &[&'a [u8]]) -> Command<'a>
     ensures { command_by result ≡ words_command (map (λ w. w.now) words.now) }
 {
     if words.is_empty() {
         return Command::Nothing;
+    }
+    if words.len() == 1 {
+        return show_of(words[0]);
     }
     if words.len() == 2 {
         return dump_of(words[0], words[1]);

@@ -1,5 +1,6 @@
 // Whole runs over objects in memory. The bytes and statuses are worked by hand from the rules of docs/SCRIPT.md.
 use super::*;
+use crate::printing::write_digest;
 use outside::{Content, MemoryInput, MemorySink, MemorySource, Source};
 use std::alloc::{AllocError, Global};
 use std::process::Abort;
@@ -256,6 +257,61 @@ fn views(rt: HostRuntime) -> Result<(), Fail> {
         0,
         2,
     )?;
+    Ok(())
+}
+
+#[test]
+fn shown_views(rt: HostRuntime) -> Result<(), Fail> {
+    let alloc = rt.alloc();
+    check_script(&rt, alloc, b"show\n", b"", 0, 0)?;
+    check_script(&rt, alloc, b"# nothing is loaded\n show \r", b"", 0, 0)?;
+    check_script(
+        &rt,
+        alloc,
+        b"load a square 1 2 2 none argb\nshow\n",
+        b"a shown 2 2 argb 60095e8c93bdb6d7cd09508d4410ce5b24f669de72bbd064f26bd67152fd5be1\n",
+        0,
+        1,
+    )?;
+    // Views stand in order of first load, though they are loaded anew in the other order.
+    check_script(
+        &rt,
+        alloc,
+        b"load b red 1 2 1 none argb\nload a gone 1 1 1 none argb\nload a gone 1 1 1 none argb\nload b red 1 2 1 none argb\nshow\n",
+        b"b shown 2 1 argb e0b8f3a91e53b2aee7be9493043f0d54efa0b1d7bfa018ea8f192295a7229836\na failed missing\n",
+        1,
+        2,
+    )?;
+    // Each view is fetched once, and shown as it is then.
+    check_script(
+        &rt,
+        alloc,
+        b"load a red 1 2 1 none argb\nshow\ndump a\nload a green 1 1 1 none argb\nshow\n",
+        b"a shown 2 1 argb e0b8f3a91e53b2aee7be9493043f0d54efa0b1d7bfa018ea8f192295a7229836\na pixels ff0000ff0000ffff\na shown 1 1 argb 7a7bf454c5f3cb1b9d9a20f81417f98d976fe3b3dd52c1b9968f02e89e7e8a2f\n",
+        0,
+        2,
+    )?;
+    check_script(
+        &rt,
+        alloc,
+        b"load a red 1 2 1 none argb\nshow a\n",
+        b"glide: bad script line 2\n",
+        3,
+        0,
+    )?;
+    check_script(&rt, alloc, b"shown\n", b"glide: bad script line 1\n", 3, 0)?;
+    Ok(())
+}
+
+// The first example of FIPS 180-4.
+#[test]
+fn digests(rt: HostRuntime) -> Result<(), Fail> {
+    let mut out = MemorySink::new(7, Vec::new(rt.alloc()));
+    assert!(&rt; write_digest(&mut out, b"abc").is_ok());
+    assert_eq!(&rt;
+        out.written(),
+        b"ba7816bf8f01cfea414140de5dae2223b00361a396177a9cb410ff61f20015ad".as_slice()
+    );
     Ok(())
 }
 
