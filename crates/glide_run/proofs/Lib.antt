@@ -10,3 +10,4 @@ pub mod Obeys
 pub mod Scripts
 pub mod Realize
 pub mod Ends
+pub mod Undisturbed

@@ -2,6 +2,7 @@
 use Rattle.std.specs.Prelude.{◌≡◌, ◌≢◌, ℕ, ◌≤◌, ◌⊎◌, true, List, [], ◌++◌, Some, None, IfSome, MatchOption, ⊤, codes, Bool, ◌∷◌, length, if◌then◌else◌}
 use Rattle.std.specs.declared.option.Option.{Option}
 use Rattle.std.specs.List.{list_any}
+use Rattle.std.specs.Io.KnownBytes.{Appends}
 use Rattle.outside.specs.Causes.{Rose}
 use Rattle.outside.specs.Content.{Address, Contents}
 use Rattle.glide_run.specs.declared.run.Ended.{Ended}
@@ -38,6 +39,14 @@ pub record IsShown (content : Option Contents) (commands : Option (List Command)
   pub bad_is : status ≤ 3 → bad ≡ bad_line (done ++ left)
   pub status_is : status ≤ 3 → status ≡ status_of lines bad
   pub caused : list_any says_failed_source lines ≡ true → Rose before now
+
+-- A count of faults did not rise.
+abbrev pub IsStill : ℕ → ℕ → Type 0
+IsStill before now = Rose before now → ⊥
+
+-- What a run comes to that nothing disturbs: all that the script prints with this content, and its status, or want of memory.
+abbrev pub IsAnswer : Contents → List Command → ℕ → Option (List ℕ) → Option (List ℕ) → Type 0
+IsAnswer content commands status wo wn = (status ≡ 4) ⊎ (Appends wo wn (output content [] commands) × (status ≡ status_of (walk content [] [] commands) (bad_line commands)))
 
 -- This status, or want of memory or a failed write in its place.
 abbrev pub IsOrStops : ℕ → ℕ → Type 0

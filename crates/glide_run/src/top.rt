@@ -6,7 +6,7 @@ ghost use Rattle.outside.specs.Content.{Contents};
 ghost use Rattle.glide_run.specs.Script.{commands};
 ghost use Rattle.glide_run.specs.Walk.{begins_in};
 ghost use Rattle.glide_run.specs.Effects.{WritesFront};
-ghost use Rattle.glide_run.specs.Ending.{IsWalk, IsShown, IsRefused, IsOrStops, IsFlushed, usage_text, ending_text, ended_status};
+ghost use Rattle.glide_run.specs.Ending.{IsWalk, IsShown, IsStill, IsAnswer, IsRefused, IsOrStops, IsFlushed, usage_text, ending_text, ended_status};
 
 use crate::obeying::obey_script;
 use crate::printing::write_all;
@@ -94,6 +94,9 @@ fn run_words<S: Source, I: Input, W: Sink>(
 ) -> u8
     ensures walk { words.now ≡ [] → (script : List ℕ) → I.left input.old ≡ Some script → (content : Contents) → S.content source.old ≡ Some content
         → IsWalk content (commands script) result (W.written out.old) (W.written out.new) (S.failed source.old) (S.failed source.new) (S.faults source.old) (S.faults source.new) }
+    ensures complete { words.now ≡ [] → (script : List ℕ) → I.left input.old ≡ Some script → (content : Contents) → S.content source.old ≡ Some content
+        → IsStill (I.faults input.old) (I.faults input.new) → IsStill (W.faults out.old) (W.faults out.new) → IsStill (S.faults source.old) (S.faults source.new)
+        → IsAnswer content (commands script) result (W.written out.old) (W.written out.new) }
     ensures shown { words.now ≡ [] → IsShown (S.content source.old) (option_map commands (I.left input.old)) result (W.written out.old) (W.written out.new) (S.faults source.old) (S.faults source.new) }
     ensures fetches { words.now ≡ [] → (script : List ℕ) → I.left input.old ≡ Some script → S.fetched source.new ≤ S.fetched source.old + begins_in (commands script) }
     ensures usage { words.now ≢ [] → IsRefused result (W.written out.old) (W.written out.new) }
@@ -128,6 +131,10 @@ pub fn glide_alone<S: Source, F, I: Input, W: Sink>(
     // The bytes written are the walk of the script with the content under marks that failed fetches license, and the status is the walk's, on status 0 to 3; on 4 to 6 a front of them was written.
     ensures walk { words.now ≡ [] → (script : List ℕ) → I.left input.old ≡ Some script → (content : Contents) → S.content source.old ≡ Some content
         → IsWalk content (commands script) result.status (W.written out.old) (W.written out.new) (S.failed source.old) (S.failed source.new) (S.faults source.old) (S.faults source.new) }
+    // Where no count of faults rose, there are no marks: all of the walk was written, or memory was wanting.
+    ensures complete { words.now ≡ [] → (script : List ℕ) → I.left input.old ≡ Some script → (content : Contents) → S.content source.old ≡ Some content
+        → IsStill (I.faults input.old) (I.faults input.new) → IsStill (W.faults out.old) (W.faults out.new) → IsStill (S.faults source.old) (S.faults source.new)
+        → IsAnswer content (commands script) result.status (W.written out.old) (W.written out.new) }
     // With no content told too, the status is that of the lines printed, status 3 stands for the first bad line, and a line blames the source only where its count rose.
     ensures shown { words.now ≡ [] → IsShown (S.content source.old) (option_map commands (I.left input.old)) result.status (W.written out.old) (W.written out.new) (S.faults source.old) (S.faults source.new) }
     // A request fetches once at most.
