@@ -3,9 +3,10 @@
 
 Each picture is a formula: from a place (x, y), counted from the top left, to red, green and blue.
 Its text is `P6`, the size, the maximum 255 and three bytes a pixel, from the top row. A `dump` line
-prints four bytes a pixel, with an alpha of 255. The expected output is worked out here from the
-formulas, and never taken from the program.
+prints four bytes a pixel, with an alpha of 255, and a `show` line prints their SHA-256. The expected
+output is worked out here from the formulas, and never taken from the program.
 """
+import hashlib
 import os
 
 HERE = os.path.dirname(os.path.abspath(__file__))
@@ -31,8 +32,17 @@ def text(name):
     return b"P6\n%d %d\n255\n" % (width, height) + b"".join(bytes(p) for p in places(name))
 
 
+def stored(name):
+    return b"".join(bytes(p) + b"\xff" for p in places(name))
+
+
 def pixels(view, name):
-    return f"{view} pixels " + "".join("%02x%02x%02xff" % p for p in places(name))
+    return f"{view} pixels {stored(name).hex()}"
+
+
+def shown(view, name):
+    width, height, _ = PICTURES[name]
+    return f"{view} shown {width} {height} argb {hashlib.sha256(stored(name)).hexdigest()}"
 
 
 IMAGES = {name: text(name) for name in PICTURES} | {
@@ -51,6 +61,10 @@ OUTPUTS = {
         pixels("left", "checkerboard"),
         pixels("middle", "checkerboard"),
         pixels("last", "red"),
+        shown("left", "checkerboard"),
+        shown("middle", "checkerboard"),
+        shown("right", "gradient"),
+        shown("last", "red"),
     ]),
     "failures": (1, [
         "gone failed missing",
