@@ -40,9 +40,9 @@ text_around form xs i v lt e = text_parts form xs (i + 1) ∙ ap (λ l. l ++ vie
 
 -- ---- views that failed
 
-abbrev pub has_no_picture : code_view.View → Bool
-has_no_picture view = has_failed (view_by view).state
+abbrev pub view_failed : code_view.View → Bool
+view_failed view = has_failed (view_by view).state
 
-pub any_failed : (form : Form) (xs : List code_view.View) → list_any has_no_picture xs ≡ list_any says_failed (lines_as form (views_by xs))
+pub any_failed : (form : Form) (xs : List code_view.View) → list_any view_failed xs ≡ list_any says_failed (lines_as form (views_by xs))
 any_failed form [] = refl
-any_failed form (x ∷ xs) = ap (λ b. has_no_picture x || b) (any_failed form xs)
+any_failed form (x ∷ xs) = ap (λ b. view_failed x || b) (any_failed form xs)

@@ -44,7 +44,7 @@ pub record IsShown (content : Option Contents) (commands : Option (List Command)
 abbrev pub IsStill : ℕ → ℕ → Type 0
 IsStill before now = Rose before now → ⊥
 
--- What a run comes to that nothing disturbs: all that the script prints with this content, and its status, or want of memory.
+-- What a run comes to that no fault disturbs: all of the walk with no marks, and its status, or want of memory.
 abbrev pub IsAnswer : Contents → List Command → ℕ → Option (List ℕ) → Option (List ℕ) → Type 0
 IsAnswer content commands status wo wn = (status ≡ 4) ⊎ (Appends wo wn (output content [] commands) × (status ≡ status_of (walk content [] [] commands) (bad_line commands)))
 

@@ -116,6 +116,7 @@ fn dump<S: Source, W: Sink>(
     }
 }
 
+// Whether some view failed.
 fn have_failed(views: &[View]) -> bool
     ensures { result ≡ list_any says_failed (lines_as Digest (views_by views.now)) }
 {
