@@ -6,6 +6,11 @@ pub mod Gathers
 pub mod Shown
 pub mod Writing
 pub mod Filling
+pub mod SampledRows
+pub mod Planned
+pub mod UnderOne
+pub mod Kept
+pub mod Decoding
 pub mod Obeys
 pub mod Scripts
 pub mod Realize

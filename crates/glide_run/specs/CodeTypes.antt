@@ -17,13 +17,14 @@ use Rattle.glide_run.specs.declared.views.View as code_view
 use Rattle.glide_run.specs.declared.printing.Form as code_form
 use Rattle.glide_run.specs.declared.printing.Form.TheVariants as forms
 use Rattle.glide_run.specs.Script.{Key, Command, Nothing, Bad, Load, Dump, Show}
-use Rattle.glide_run.specs.Pictures.{Refusal, Unknown, refusal_of}
+use Rattle.glide_run.specs.Pictures.{Refusal, Unknown, TooLarge, refusal_of}
 use Rattle.glide_run.specs.Views.{Cause, Missing, Refused, Source, Memory, Uncached, State, Running, Complete, Failed, Seen}
 use Rattle.glide_run.specs.Printed.{Form, Pixels, Digest}
 
 abbrev pub refusal_by : code_refusal.Refusal → Refusal
 refusal_by refusals.Unknown = Unknown
 refusal_by (refusals.Ppm fault) = refusal_of fault
+refusal_by refusals.TooLarge = TooLarge
 
 abbrev pub cause_by : code_cause.Cause → Cause
 cause_by causes.Missing = Missing
@@ -33,10 +34,11 @@ cause_by causes.Memory = Memory
 cause_by causes.Uncached = Uncached
 
 abbrev pub key_by : EngineKey → Key
-key_by key = record { url = key.url; sig = key.sig; width = key.width; height = key.height }
+key_by key = record { url = key.url; sig = key.sig; width = key.width; height = key.height; transform = key.transform; config = key.config; rule = key.rule }
 
 abbrev pub request_key : Request → Key
-request_key request = record { url = request.url.now; sig = request.sig.now; width = request.width; height = request.height }
+request_key request =
+    record { url = request.url.now; sig = request.sig.now; width = request.width; height = request.height; transform = request.transform; config = request.config; rule = request.rule }
 
 abbrev pub command_by : code_command.Command → Command
 command_by commands.Nothing = Nothing
@@ -65,3 +67,9 @@ abbrev pub Decodes : Result BitmapValue DecodeFault → Result Picture Refusal �
 Decodes (Ok bitmap) picture = picture ≡ Ok bitmap.picture
 Decodes (Err faults.Memory) picture = ⊤
 Decodes (Err (faults.Refused refusal)) picture = picture ≡ Err (refusal_by refusal)
+
+-- The same of a bitmap that was decoded into.
+abbrev pub DecodesInto : {A : Type 0} → Result A DecodeFault → BitmapValue → Result Picture Refusal → Type 0
+DecodesInto (Ok done) bitmap picture = picture ≡ Ok bitmap.picture
+DecodesInto (Err faults.Memory) bitmap picture = ⊤
+DecodesInto (Err (faults.Refused refusal)) bitmap picture = picture ≡ Err (refusal_by refusal)

@@ -5,6 +5,8 @@ pub mod Printed
 pub mod Walk
 pub mod Run
 pub mod CodeTypes
+pub mod Planning
+pub mod Filled
 pub mod Effects
 pub mod Reading
 pub mod ReaderView

@@ -7,13 +7,14 @@ use Rattle.sha2.specs.Sha256.{sha256}
 use Rattle.bitmap_kind.specs.declared.bitmaps.Config.{Config}
 use Rattle.bitmap_kind.specs.declared.bitmaps.Config.TheVariants.{Argb8888, Rgb565, Alpha8}
 use Rattle.bitmap_kind.specs.Picture.{Picture}
-use Rattle.glide_run.specs.Pictures.{Refusal, Unknown, Unbuilt, Truncated}
+use Rattle.glide_run.specs.Pictures.{Refusal, Unknown, Unbuilt, Truncated, TooLarge}
 use Rattle.glide_run.specs.Views.{Cause, Missing, Refused, Source, Memory, Uncached, State, Running, Complete, Failed, Seen}
 
 abbrev pub refusal_text : Refusal → List ℕ
 refusal_text Unknown = codes "unknown"
 refusal_text Unbuilt = codes "unbuilt"
 refusal_text Truncated = codes "truncated"
+refusal_text TooLarge = codes "too-large"
 
 abbrev pub cause_text : Cause → List ℕ
 cause_text Missing = codes "missing"

@@ -5,13 +5,22 @@ use Rattle.std.specs.Char.{is_ascii_alphanumeric, is_ascii_digit}
 use Rattle.std.specs.Str.{bytes_eq}
 use Rattle.std.specs.Str.Parse.{digits_value}
 use Rattle.std.specs.declared.option.Option.{Option}
+use Rattle.bitmap_kind.specs.declared.bitmaps.Config.{Config}
+use Rattle.bitmap_kind.specs.declared.bitmaps.Config.TheVariants as configs
+use Rattle.bitmap_kind.specs.declared.bitmaps.Transform.{Transform}
+use Rattle.bitmap_kind.specs.declared.bitmaps.Transform.TheVariants as transforms
+use Rattle.bitmap_kind.specs.declared.bitmaps.Rule.{Rule}
+use Rattle.bitmap_kind.specs.declared.bitmaps.Rule.TheVariants as rules
 
--- the picture that a load asks for
+-- the picture that a load asks for, the size that it is wanted at, and how it is brought there
 pub record Key : Type 0 where
   pub url : List ℕ
   pub sig : List ℕ
   pub width : ℕ
   pub height : ℕ
+  pub transform : Transform
+  pub config : Config
+  pub rule : Rule
 
 -- What a line asks for. An empty line and a comment ask for nothing; a bad line is none of the forms.
 pub data Command : Type 0 where
@@ -74,22 +83,51 @@ side word = if is_side word then Some (digits_value 10 word) else None
 
 -- ---- the forms of a line
 
--- `load VIEW URL SIG W H none argb`: its words that are fixed
-abbrev pub is_load : List ℕ → List ℕ → List ℕ → Bool
-is_load verb transform config = bytes_eq verb (codes "load") && bytes_eq transform (codes "none") && bytes_eq config (codes "argb")
+-- TRANSFORM: the words for Glide's transformations
+abbrev pub transform_named : List ℕ → Option Transform
+transform_named word = if bytes_eq word (codes "none") then Some transforms.Nothing else if bytes_eq word (codes "fit") then Some transforms.Fit
+    else if bytes_eq word (codes "crop") then Some transforms.Crop else if bytes_eq word (codes "inside") then Some transforms.Inside else None
+
+-- CONFIG: the words for Android's Bitmap.Config
+abbrev pub config_named : List ℕ → Option Config
+config_named word = if bytes_eq word (codes "argb") then Some configs.Argb8888 else if bytes_eq word (codes "rgb565") then Some configs.Rgb565
+    else if bytes_eq word (codes "alpha") then Some configs.Alpha8 else None
+
+-- the words for Glide's strategies AT_LEAST and AT_MOST
+abbrev pub rule_named : List ℕ → Option Rule
+rule_named word = if bytes_eq word (codes "atleast") then Some rules.AtLeast else if bytes_eq word (codes "atmost") then Some rules.AtMost else None
+
+-- the rule of a load, which is its ninth and last word; without one it is `atleast`
+abbrev pub rule_of : List (List ℕ) → Option Rule
+rule_of ws = if length ws == 8 then Some rules.AtLeast else if length ws == 9 then rule_named (word ws 8) else None
 
 -- a view's name, a url of at most 1,024 bytes and a signature of at most 64
 abbrev pub is_request : List ℕ → List ℕ → List ℕ → Bool
 is_request view url sig = is_name view && nat_le (length url) 1024 && nat_le (length sig) 64
 
-abbrev pub load_of : List ℕ → List ℕ → List ℕ → Option ℕ → Option ℕ → Command
-load_of view url sig (Some width) (Some height) = Load view record { url = url; sig = sig; width = width; height = height }
-load_of view url sig None height = Bad
-load_of view url sig (Some width) None = Bad
+-- goes on with what a word names, if it names anything
+infixl 10 ◌>>=◌
+abbrev pub ◌>>=◌ : {A B : Type 0} → Option A → (A → Option B) → Option B
+None >>= f = None
+(Some x) >>= f = f x
 
+-- the key of a load with these words, where each of them names what its place asks for
+abbrev pub key_of : List (List ℕ) → Option Key
+key_of ws = do
+  width ← side (word ws 4)
+  height ← side (word ws 5)
+  transform ← transform_named (word ws 6)
+  config ← config_named (word ws 7)
+  rule ← rule_of ws
+  Some record { url = word ws 2; sig = word ws 3; width = width; height = height; transform = transform; config = config; rule = rule }
+
+abbrev pub load_of : List ℕ → Option Key → Command
+load_of view None = Bad
+load_of view (Some key) = Load view key
+
+-- `load VIEW URL SIG W H TRANSFORM CONFIG`, with the rule behind it or without
 abbrev pub load_command : List (List ℕ) → Command
-load_command ws = if is_load (word ws 0) (word ws 6) (word ws 7) && is_request (word ws 1) (word ws 2) (word ws 3)
-    then load_of (word ws 1) (word ws 2) (word ws 3) (side (word ws 4)) (side (word ws 5)) else Bad
+load_command ws = if bytes_eq (word ws 0) (codes "load") && is_request (word ws 1) (word ws 2) (word ws 3) then load_of (word ws 1) (key_of ws) else Bad
 
 -- `dump VIEW`
 abbrev pub dump_command : List ℕ → List ℕ → Command
@@ -100,7 +138,7 @@ abbrev pub show_command : List ℕ → Command
 show_command verb = if bytes_eq verb (codes "show") then Show else Bad
 
 abbrev pub words_command : List (List ℕ) → Command
-words_command ws = if length ws == 0 then Nothing else if length ws == 1 then show_command (word ws 0) else if length ws == 2 then dump_command (word ws 0) (word ws 1) else if length ws == 8 then load_command ws else Bad
+words_command ws = if length ws == 0 then Nothing else if length ws == 1 then show_command (word ws 0) else if length ws == 2 then dump_command (word ws 0) (word ws 1) else if nat_le 8 (length ws) then load_command ws else Bad
 
 -- a space, or a byte of a word
 abbrev pub is_line_byte : ℕ → Bool

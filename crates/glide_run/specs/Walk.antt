@@ -5,6 +5,12 @@ use Rattle.std.specs.List.{list_any}
 use Rattle.std.specs.Str.{bytes_eq}
 use Rattle.std.specs.FinMap.{get}
 use Rattle.outside.specs.Content.{Address, Contents}
+use Rattle.bitmap_kind.specs.declared.bitmaps.Config.{Config}
+use Rattle.bitmap_kind.specs.declared.bitmaps.Config.TheVariants.{Argb8888, Rgb565, Alpha8}
+use Rattle.bitmap_kind.specs.declared.bitmaps.Transform.{Transform}
+use Rattle.bitmap_kind.specs.declared.bitmaps.Transform.TheVariants as transforms
+use Rattle.bitmap_kind.specs.declared.bitmaps.Rule.{Rule}
+use Rattle.bitmap_kind.specs.declared.bitmaps.Rule.TheVariants.{AtLeast, AtMost}
 use Rattle.glide_run.specs.Script.{Key, Command, Nothing, Bad, Load, Dump, Show}
 use Rattle.glide_run.specs.Views.{Source, State, Running, Complete, Failed, View, seen, address_of, fetched, names_of, has_name, can_name, with_name, named, put_view}
 use Rattle.glide_run.specs.Printed.{Pixels, Digest, PrintedLine, lines_as, run_text, says_failed}
@@ -72,8 +78,28 @@ status_of lines (Some number) = 3
 
 -- ---- the licence of the marks
 
+abbrev pub same_transform : Transform → Transform → Bool
+same_transform transforms.Nothing transforms.Nothing = true
+same_transform transforms.Fit transforms.Fit = true
+same_transform transforms.Crop transforms.Crop = true
+same_transform transforms.Inside transforms.Inside = true
+same_transform a b = false
+
+abbrev pub same_config : Config → Config → Bool
+same_config Argb8888 Argb8888 = true
+same_config Rgb565 Rgb565 = true
+same_config Alpha8 Alpha8 = true
+same_config a b = false
+
+abbrev pub same_rule : Rule → Rule → Bool
+same_rule AtLeast AtLeast = true
+same_rule AtMost AtMost = true
+same_rule a b = false
+
 abbrev pub same_key : Key → Key → Bool
-same_key a b = bytes_eq a.url b.url && bytes_eq a.sig b.sig && a.width == b.width && a.height == b.height
+same_key a b =
+    bytes_eq a.url b.url && bytes_eq a.sig b.sig && a.width == b.width && a.height == b.height
+    && same_transform a.transform b.transform && same_config a.config b.config && same_rule a.rule b.rule
 
 abbrev pub same_address : Address → Address → Bool
 same_address a b = bytes_eq a.0 b.0 && bytes_eq a.1 b.1

@@ -8,6 +8,8 @@ pub enum Refusal {
     Unknown,
     /// It breaks a rule of the Netpbm reader.
     Ppm(PpmFault),
+    /// The source, or what would be shown of it, is beyond the limits on sides and pixels.
+    TooLarge,
 }
 
 /// Why a view failed.

@@ -1,6 +1,7 @@
 // What a load asks for.
 ghost use Rattle.std.specs.Prelude.{◌≡◌, ◌≤◌, IfOk};
 
+use bitmap_kind::{Config, Rule, Transform};
 use std::alloc::{AllocError, Global};
 use std::marker::Model;
 
@@ -35,13 +36,18 @@ impl Text {
     }
 }
 
-/// The picture that a load asks for: its url and signature, and the size that it is wanted at, in pixels.
+/// The picture that a load asks for: its url and signature, the size that it is wanted at, in pixels, how it is brought
+/// there, how its pixels are stored, and on which side of that size it is decoded. Glide's `EngineKey` tells loads apart
+/// by the same things.
 #[derive(Drop)]
 pub struct EngineKey {
     pub url: Text,
     pub sig: Text,
     pub width: u32,
     pub height: u32,
+    pub transform: Transform,
+    pub config: Config,
+    pub rule: Rule,
     ghost wide: { 1 ≤ width },
     ghost high: { 1 ≤ height },
 }

@@ -108,6 +108,7 @@ fn cause_text(cause: Cause) -> &'static [u8]
         Cause::Refused(Refusal::Ppm(PpmFault::BadMagic)) => b"failed refused unknown",
         Cause::Refused(Refusal::Ppm(PpmFault::Unbuilt)) => b"failed refused unbuilt",
         Cause::Refused(Refusal::Ppm(PpmFault::Truncated)) => b"failed refused truncated",
+        Cause::Refused(Refusal::TooLarge) => b"failed refused too-large",
         Cause::Source => b"failed source",
         Cause::Memory => b"failed memory",
         Cause::Uncached => b"failed uncached",

@@ -59,6 +59,9 @@ fn view_of(alloc: Global, request: &Request<'_>) -> Result<View, AllocError>
             sig: Text::new(alloc, request.sig)?,
             width: request.width,
             height: request.height,
+            transform: request.transform,
+            config: request.config,
+            rule: request.rule,
         },
         state: ViewState::Running,
     })

@@ -1,12 +1,14 @@
 // What the lines of a script ask for.
 ghost use Rattle.std.specs.Prelude.{◌≡◌, ◌<◌, ◌≤◌, ◌==◌, not, map, IfOk, IfSome, length};
+ghost use Rattle.std.specs.Option.{option_map};
 ghost use Rattle.std.specs.List.{filter, slice_split, list_all};
 ghost use Rattle.std.specs.Char.{is_ascii_digit};
 ghost use Rattle.std.specs.Str.Parse.{AllDigits, digits_value};
-ghost use Rattle.glide_run.specs.Script.{trimmed, words, is_name_byte, is_name, is_line_byte, is_comment, side, is_request, is_load, load_of, dump_command, show_command, words_command, trimmed_command, line_command};
-ghost use Rattle.glide_run.specs.CodeTypes.{command_by};
+ghost use Rattle.glide_run.specs.Script.{trimmed, words, is_name_byte, is_name, is_line_byte, is_comment, side, is_request, transform_named, config_named, rule_named, rule_of, key_of, load_command, word, dump_command, show_command, words_command, trimmed_command, line_command};
+ghost use Rattle.glide_run.specs.CodeTypes.{request_key, command_by};
 
 use crate::requests::Request;
+use bitmap_kind::{Config, Rule, Transform};
 use std::alloc::{AllocError, Global};
 
 /// What a line asks for.
@@ -109,17 +111,62 @@ fn side_of(word: &[u8]) -> Option<u32>
     Some(value)
 }
 
-// Whether the words round a load's request are its own.
-fn is_load(verb: &[u8], transform: &[u8], config: &[u8]) -> bool
-    ensures { result ≡ is_load verb.now transform.now config.now }
+fn transform_named(word: &[u8]) -> Option<Transform>
+    ensures { result ≡ transform_named word.now }
 {
-    if verb != b"load".as_slice() {
-        return false;
+    if word == b"none".as_slice() {
+        return Some(Transform::Nothing);
     }
-    if transform != b"none".as_slice() {
-        return false;
+    if word == b"fit".as_slice() {
+        return Some(Transform::Fit);
     }
-    config == b"argb".as_slice()
+    if word == b"crop".as_slice() {
+        return Some(Transform::Crop);
+    }
+    if word == b"inside".as_slice() {
+        return Some(Transform::Inside);
+    }
+    None
+}
+
+fn config_named(word: &[u8]) -> Option<Config>
+    ensures { result ≡ config_named word.now }
+{
+    if word == b"argb".as_slice() {
+        return Some(Config::Argb8888);
+    }
+    if word == b"rgb565".as_slice() {
+        return Some(Config::Rgb565);
+    }
+    if word == b"alpha".as_slice() {
+        return Some(Config::Alpha8);
+    }
+    None
+}
+
+fn rule_named(word: &[u8]) -> Option<Rule>
+    ensures { result ≡ rule_named word.now }
+{
+    if word == b"atleast".as_slice() {
+        return Some(Rule::AtLeast);
+    }
+    if word == b"atmost".as_slice() {
+        return Some(Rule::AtMost);
+    }
+    None
+}
+
+// The rule of a load with these words.
+fn rule_of(words: &[&[u8]]) -> Option<Rule>
+    ensures { result ≡ rule_of (map (λ w. w.now) words.now) }
+{
+    if words.len() == 8 {
+        return Some(Rule::AtLeast);
+    }
+    if words.len() == 9 {
+        return rule_named(words[8]);
+    }
+    None
 }
 
 fn is_request(view: &[u8], url: &[u8], sig: &[u8]) -> bool
@@ -134,28 +181,43 @@ fn is_request(view: &[u8], url: &[u8], sig: &[u8]) -> bool
     sig.len() <= 64
 }
 
-fn load_of<'a>(
-    view: &'a [u8],
-    url: &'a [u8],
-    sig: &'a [u8],
-    width: &[u8],
-    height: &[u8],
-) -> Command<'a>
-    ensures { command_by result ≡ load_of view.now url.now sig.now (side width.now) (side height.now) }
+// What a load with these words asks for.
+fn request_of<'a>(words: &[&'a [u8]]) -> Option<Request<'a>>
+    requires { 8 ≤ length words.now }
+    ensures key { option_map request_key result ≡ key_of (map (λ w. w.now) words.now) }
+    ensures view { IfSome result (λ request. request.view.now ≡ word (map (λ w. w.now) words.now) 1) }
 {
-    let Some(width) = side_of(width) else {
-        return Command::Bad;
-    };
-    let Some(height) = side_of(height) else {
-        return Command::Bad;
-    };
-    Command::Load(Request {
-        view,
-        url,
-        sig,
+    let width = side_of(words[4])?;
+    let height = side_of(words[5])?;
+    let transform = transform_named(words[6])?;
+    let config = config_named(words[7])?;
+    let rule = rule_of(words)?;
+    Some(Request {
+        view: words[1],
+        url: words[2],
+        sig: words[3],
         width,
         height,
+        transform,
+        config,
+        rule,
     })
+}
+
+fn load_of<'a>(words: &[&'a [u8]]) -> Command<'a>
+    requires { 8 ≤ length words.now }
+    ensures { command_by result ≡ load_command (map (λ w. w.now) words.now) }
+{
+    if words[0] != b"load".as_slice() {
+        return Command::Bad;
+    }
+    if !is_request(words[1], words[2], words[3]) {
+        return Command::Bad;
+    }
+    match request_of(words) {
+        Some(request) => Command::Load(request),
+        None => Command::Bad,
+    }
 }
 
 fn dump_of<'a>(verb: &[u8], view: &'a [u8]) -> Command<'a>
@@ -192,16 +254,10 @@ fn command_of<'a>(words: &[&'a [u8]]) -> Command<'a>
     if words.len() == 2 {
         return dump_of(words[0], words[1]);
     }
-    if words.len() != 8 {
+    if words.len() < 8 {
         return Command::Bad;
     }
-    if !is_load(words[0], words[6], words[7]) {
-        return Command::Bad;
-    }
-    if !is_request(words[1], words[2], words[3]) {
-        return Command::Bad;
-    }
-    load_of(words[1], words[2], words[3], words[4], words[5])
+    load_of(words)
 }
 
 fn is_comment(words: &[&[u8]]) -> bool

@@ -1,7 +1,11 @@
 // Whole runs over objects in memory. The bytes and statuses are worked by hand from the rules of docs/SCRIPT.md.
 use super::*;
+use crate::keys::{EngineKey, Text};
+use crate::plan::{Plan, plan_of};
 use crate::printing::write_digest;
+use bitmap_kind::{Config, Rule, Transform};
 use outside::{Content, MemoryInput, MemorySink, MemorySource, Source};
+use ppm_read::read_head;
 use std::alloc::{AllocError, Global};
 use std::process::Abort;
 use std::test::Fail;
@@ -12,8 +16,19 @@ const RED: &[u8] = b"P6\n2 1\n255\n\xff\x00\x00\x00\x00\xff";
 // A green pixel.
 const GREEN: &[u8] = b"P6\n1 1\n255\n\x00\xff\x00";
 
-// Two by two pixels, which a size of one by one would sample.
+// Two by two pixels, which a size of one by one samples.
 const SQUARE: &[u8] = b"P6\n2 2\n255\n\x01\x02\x03\x04\x05\x06\x07\x08\x09\x0a\x0b\x0c";
+
+// Grey pixels of 0, 1, 2 and 4 above 3, 0, 5 and 6.
+const BLOCKS: &[u8] =
+    b"P6\n4 2\n255\n\x00\x00\x00\x01\x01\x01\x02\x02\x02\x04\x04\x04\x03\x03\x03\x00\x00\x00\x05\x05\x05\x06\x06\x06";
+
+// Grey pixels of 1 to 4 in a row.
+const LINE_OF_FOUR: &[u8] = b"P6\n4 1\n255\n\x01\x01\x01\x02\x02\x02\x03\x03\x03\x04\x04\x04";
+
+// Grey pixels of 1 to 3 above 4 to 6.
+const SIX: &[u8] =
+    b"P6\n3 2\n255\n\x01\x01\x01\x02\x02\x02\x03\x03\x03\x04\x04\x04\x05\x05\x05\x06\x06\x06";
 
 const SCRIPT: &[u8] = b"load a red 1 2 1 none argb\ndump a\n";
 
@@ -135,8 +150,8 @@ fn sizes_and_missing_pictures(rt: HostRuntime) -> Result<(), Fail> {
         &rt,
         alloc,
         b"load a square 1 1 1 none argb\ndump a\n",
-        b"a failed refused unbuilt\n",
-        1,
+        b"a pixels 060708ff\n",
+        0,
         1,
     )?;
     check_script(
@@ -162,6 +177,337 @@ fn sizes_and_missing_pictures(rt: HostRuntime) -> Result<(), Fail> {
         b"a failed missing\n",
         1,
         1,
+    )?;
+    Ok(())
+}
+
+// Loads this text under a line of `load` for `red`, and dumps the view.
+fn check_picture(
+    rt: &impl Abort,
+    alloc: Global,
+    text: &[u8],
+    script: &[u8],
+    written: &[u8],
+    status: u8,
+) -> Result<(), Fail> {
+    check(
+        rt,
+        alloc,
+        script,
+        source_of(alloc, text, NONE)?,
+        Wanted(written, status, 1),
+    )
+}
+
+#[test]
+fn configs(rt: HostRuntime) -> Result<(), Fail> {
+    let alloc = rt.alloc();
+    check_picture(
+        &rt,
+        alloc,
+        RED,
+        b"load a red 1 2 1 none rgb565\ndump a\n",
+        b"a pixels 00f81f00\n",
+        0,
+    )?;
+    check_picture(
+        &rt,
+        alloc,
+        RED,
+        b"load a red 1 2 1 none alpha\ndump a\n",
+        b"a pixels ffff\n",
+        0,
+    )?;
+    Ok(())
+}
+
+#[test]
+fn samples(rt: HostRuntime) -> Result<(), Fail> {
+    let alloc = rt.alloc();
+    // Both sides are twice the wanted ones: the sample is 2.
+    check_picture(
+        &rt,
+        alloc,
+        BLOCKS,
+        b"load a red 1 2 1 none argb\ndump a\n",
+        b"a pixels 010101ff040404ff\n",
+        0,
+    )?;
+    check_picture(
+        &rt,
+        alloc,
+        BLOCKS,
+        b"load a red 1 2 1 none rgb565\ndump a\n",
+        b"a pixels 00002000\n",
+        0,
+    )?;
+    // One side is not, and at least the wanted size keeps all pixels.
+    check_picture(
+        &rt,
+        alloc,
+        LINE_OF_FOUR,
+        b"load a red 1 2 1 none argb atleast\ndump a\n",
+        b"a pixels 010101ff020202ff030303ff040404ff\n",
+        0,
+    )?;
+    check_picture(
+        &rt,
+        alloc,
+        LINE_OF_FOUR,
+        b"load a red 1 2 1 none argb atmost\ndump a\n",
+        b"a pixels 020202ff040404ff\n",
+        0,
+    )?;
+    Ok(())
+}
+
+// Rows that make no whole block beside others are read too, and a text that lacks a byte of them is too short.
+#[test]
+fn rows_behind_the_blocks(rt: HostRuntime) -> Result<(), Fail> {
+    let alloc = rt.alloc();
+    check_picture(
+        &rt,
+        alloc,
+        b"P6\n1 3\n255\n\x01\x02\x03\x04\x05\x06\x07\x08\x09",
+        b"load a red 1 1 1 none argb atmost\ndump a\n",
+        b"a pixels 040506ff\n",
+        0,
+    )?;
+    check_picture(
+        &rt,
+        alloc,
+        b"P6\n3 3\n255\n\x01\x01\x01\x01\x01\x01\x09\x09\x09\x03\x03\x03\x03\x03\x03\x09\x09\x09\x09\x09\x09\x09\x09\x09\x09\x09\x09",
+        b"load a red 1 1 1 none argb\ndump a\n",
+        b"a pixels 020202ff\n",
+        0,
+    )?;
+    check_picture(
+        &rt,
+        alloc,
+        b"P6\n3 3\n255\n\x01\x01\x01\x01\x01\x01\x09\x09\x09\x03\x03\x03\x03\x03\x03\x09\x09\x09\x09\x09\x09\x09\x09\x09\x09\x09",
+        b"load a red 1 1 1 none argb\ndump a\n",
+        b"a failed refused truncated\n",
+        1,
+    )?;
+    Ok(())
+}
+
+#[test]
+fn transforms(rt: HostRuntime) -> Result<(), Fail> {
+    let alloc = rt.alloc();
+    check_picture(
+        &rt,
+        alloc,
+        SIX,
+        b"load a red 1 2 2 fit argb\ndump a\n",
+        b"a pixels 040404ff060606ff\n",
+        0,
+    )?;
+    check_picture(
+        &rt,
+        alloc,
+        LINE_OF_FOUR,
+        b"load a red 1 2 1 crop argb\ndump a\n",
+        b"a pixels 020202ff030303ff\n",
+        0,
+    )?;
+    check_picture(
+        &rt,
+        alloc,
+        RED,
+        b"load a red 1 1 1 inside argb\ndump a\n",
+        b"a pixels 0000ffff\n",
+        0,
+    )?;
+    check_picture(
+        &rt,
+        alloc,
+        RED,
+        b"load a red 1 4 4 inside argb\ndump a\n",
+        b"a pixels ff0000ff0000ffff\n",
+        0,
+    )?;
+    // Each pixel becomes four.
+    check_picture(
+        &rt,
+        alloc,
+        RED,
+        b"load a red 1 4 4 fit rgb565\ndump a\n",
+        b"a pixels 00f800f81f001f0000f800f81f001f00\n",
+        0,
+    )?;
+    // The decoded picture, of two by one pixels, is cropped.
+    check_picture(
+        &rt,
+        alloc,
+        BLOCKS,
+        b"load a red 1 1 1 crop rgb565\ndump a\n",
+        b"a pixels 2000\n",
+        0,
+    )?;
+    Ok(())
+}
+
+#[test]
+fn too_large_pictures(rt: HostRuntime) -> Result<(), Fail> {
+    let alloc = rt.alloc();
+    check_picture(
+        &rt,
+        alloc,
+        RED,
+        b"load a red 1 16384 16384 crop argb\ndump a\n",
+        b"a failed refused too-large\n",
+        1,
+    )?;
+    check_picture(
+        &rt,
+        alloc,
+        RED,
+        b"load a red 1 16384 16384 fit alpha\ndump a\n",
+        b"a failed refused too-large\n",
+        1,
+    )?;
+    // One column more than the limit of 8192 by 4096 pixels.
+    check_picture(
+        &rt,
+        alloc,
+        RED,
+        b"load a red 1 8193 4096 crop argb\ndump a\n",
+        b"a failed refused too-large\n",
+        1,
+    )?;
+    // These keep the size of the source.
+    check_picture(
+        &rt,
+        alloc,
+        RED,
+        b"load a red 1 16384 16384 none argb\ndump a\n",
+        b"a pixels ff0000ff0000ffff\n",
+        0,
+    )?;
+    check_picture(
+        &rt,
+        alloc,
+        RED,
+        b"load a red 1 16384 16384 inside argb\ndump a\n",
+        b"a pixels ff0000ff0000ffff\n",
+        0,
+    )?;
+    // The header is read before, and the raster afterwards.
+    check_picture(
+        &rt,
+        alloc,
+        b"hello",
+        b"load a red 1 16384 16384 crop argb\ndump a\n",
+        b"a failed refused unknown\n",
+        1,
+    )?;
+    check_picture(
+        &rt,
+        alloc,
+        b"P6\n2 1\n255\n",
+        b"load a red 1 16384 16384 crop argb\ndump a\n",
+        b"a failed refused too-large\n",
+        1,
+    )?;
+    Ok(())
+}
+
+// Plans a picture of 400 by 300 that is to fit into 100 by 100.
+fn check_plan(rt: &impl Abort, alloc: Global, rule: Rule, wanted: Plan) -> Result<(), Fail> {
+    let key = EngineKey {
+        url: Text::new(alloc, b"red")?,
+        sig: Text::new(alloc, b"1")?,
+        width: 100,
+        height: 100,
+        transform: Transform::Fit,
+        config: Config::Alpha8,
+        rule,
+    };
+    match read_head(b"P6\n400 300\n255\n") {
+        Ok(head) => assert!(rt; plan_of(head, &key) == Ok(wanted)),
+        Err(_) => assert!(rt; false),
+    }
+    Ok(())
+}
+
+#[test]
+fn plans(rt: HostRuntime) -> Result<(), Fail> {
+    check_plan(
+        &rt,
+        rt.alloc(),
+        Rule::AtLeast,
+        Plan {
+            sample: 2,
+            decoded: (200, 150),
+            target: (100, 75),
+            config: Config::Alpha8,
+        },
+    )?;
+    check_plan(
+        &rt,
+        rt.alloc(),
+        Rule::AtMost,
+        Plan {
+            sample: 4,
+            decoded: (100, 75),
+            target: (100, 75),
+            config: Config::Alpha8,
+        },
+    )?;
+    Ok(())
+}
+
+#[test]
+fn words_of_a_load(rt: HostRuntime) -> Result<(), Fail> {
+    let alloc = rt.alloc();
+    check_script(
+        &rt,
+        alloc,
+        b"load a red 1 2 1 fill argb\n",
+        b"glide: bad script line 1\n",
+        3,
+        0,
+    )?;
+    check_script(
+        &rt,
+        alloc,
+        b"load a red 1 2 1 none rgb\n",
+        b"glide: bad script line 1\n",
+        3,
+        0,
+    )?;
+    check_script(
+        &rt,
+        alloc,
+        b"load a red 1 2 1 argb none\n",
+        b"glide: bad script line 1\n",
+        3,
+        0,
+    )?;
+    check_script(
+        &rt,
+        alloc,
+        b"load a red 1 2 1 none argb low\n",
+        b"glide: bad script line 1\n",
+        3,
+        0,
+    )?;
+    check_script(
+        &rt,
+        alloc,
+        b"load a red 1 2 1 none argb atmost atmost\n",
+        b"glide: bad script line 1\n",
+        3,
+        0,
+    )?;
+    check_script(
+        &rt,
+        alloc,
+        b"load a red 1 2 1 none\n",
+        b"glide: bad script line 1\n",
+        3,
+        0,
     )?;
     Ok(())
 }
