@@ -8,6 +8,7 @@ output is worked out here from the formulas, and never taken from the program.
 """
 import hashlib
 import os
+from fractions import Fraction
 
 HERE = os.path.dirname(os.path.abspath(__file__))
 
@@ -45,6 +46,76 @@ def shown(view, name):
     return f"{view} shown {width} {height} argb {hashlib.sha256(stored(name)).hexdigest()}"
 
 
+# ---- the rules of docs/PICTURES.md, for pictures as lists of rows of (red, green, blue)
+
+
+def rounded(n, d):
+    return (2 * n + d) // (2 * d)
+
+
+def sample_for(width, height, wanted_width, wanted_height, rule):
+    sample = 1
+    if rule == "atleast":
+        while 2 * sample * wanted_width <= width and 2 * sample * wanted_height <= height:
+            sample *= 2
+    else:
+        while sample * wanted_width < width or sample * wanted_height < height:
+            sample *= 2
+    return sample
+
+
+def sampled(rows, sample):
+    def mean(x, y):
+        block = [p for row in rows[y : y + sample] for p in row[x : x + sample]]
+        return tuple((sum(p[c] for p in block) + len(block) // 2) // len(block) for c in range(3))
+
+    width, height = max(1, len(rows[0]) // sample), max(1, len(rows) // sample)
+    return [[mean(sample * x, sample * y) for x in range(width)] for y in range(height)]
+
+
+def fit(rows, wanted_width, wanted_height):
+    width, height = len(rows[0]), len(rows)
+    if wanted_width * height <= wanted_height * width:
+        size = wanted_width, max(1, rounded(height * wanted_width, width))
+    else:
+        size = max(1, rounded(width * wanted_height, height)), wanted_height
+    columns = [(2 * x + 1) * width // (2 * size[0]) for x in range(size[0])]
+    return [[rows[(2 * y + 1) * height // (2 * size[1])][x] for x in columns] for y in range(size[1])]
+
+
+def crop(rows, wanted_width, wanted_height):
+    # The box is as large as the source takes; half of what is left over lies before it.
+    width, height = len(rows[0]), len(rows)
+    scale = min(Fraction(width, wanted_width), Fraction(height, wanted_height))
+    left = (width - wanted_width * scale) / 2
+    top = (height - wanted_height * scale) / 2
+    half = Fraction(1, 2)
+    columns = [int(left + (x + half) * scale) for x in range(wanted_width)]
+    return [[rows[int(top + (y + half) * scale)][x] for x in columns] for y in range(wanted_height)]
+
+
+def inside(rows, wanted_width, wanted_height):
+    fits = len(rows[0]) <= wanted_width and len(rows) <= wanted_height
+    return rows if fits else fit(rows, wanted_width, wanted_height)
+
+
+TRANSFORMS = {"none": lambda rows, width, height: rows, "fit": fit, "crop": crop, "inside": inside}
+
+CONFIGS = {
+    "argb": lambda r, g, b: bytes([r, g, b, 255]),
+    "rgb565": lambda r, g, b: (r >> 3 << 11 | g >> 2 << 5 | b >> 3).to_bytes(2, "little"),
+    "alpha": lambda r, g, b: b"\xff",
+}
+
+
+def shown(view, name, wanted_width, wanted_height, transform, config, rule="atleast"):
+    width, height, pixel = PICTURES[name]
+    rows = [[pixel(x, y) for x in range(width)] for y in range(height)]
+    rows = sampled(rows, sample_for(width, height, wanted_width, wanted_height, rule))
+    rows = TRANSFORMS[transform](rows, wanted_width, wanted_height)
+    return f"{view} pixels " + b"".join(CONFIGS[config](*p) for row in rows for p in row).hex()
+
+
 IMAGES = {name: text(name) for name in PICTURES} | {
     # Two bytes behind the raster, which are ignored.
     "long": text("red") + b"\0\0",
@@ -72,6 +143,15 @@ OUTPUTS = {
         "text failed refused unknown",
         pixels("here", "red"),
         "gone failed missing",
+    ]),
+    "sizes": (1, [
+        shown("half", "gradient", 4, 4, "none", "argb"),
+        shown("less", "gradient", 3, 3, "none", "argb", "atmost"),
+        shown("fitted", "gradient", 4, 2, "fit", "rgb565"),
+        shown("middle", "gradient", 4, 2, "crop", "argb"),
+        shown("larger", "checkerboard", 8, 8, "fit", "rgb565"),
+        shown("same", "red", 16, 16, "inside", "alpha"),
+        "huge failed refused too-large",
     ]),
 }
 

@@ -8,7 +8,7 @@ log=$(mktemp)
 rm -f "$log"
 cd "$here" || exit 1
 failed=0
-for name in pictures failures; do
+for name in pictures failures sizes; do
     echo "$name.script:"
     "$program/out/glide_program" <"$name.script" >"$name.printed"
     echo "(status $?)" >>"$name.printed"
