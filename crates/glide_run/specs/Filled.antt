@@ -40,7 +40,7 @@ pub record IsFresh (boxes : BoxValue) : Type 0 where
   pub open_ : boxes.full ≡ false
   pub holds : Holds boxes []
 
--- The rows pushed so far are these pixels, and before `rest` the rows of the sampled picture that they end are the first ones of a picture of the sampled size.
+-- The rows pushed so far are these pixels, and `rest` are those to come. The rows of the sampled picture that were given are the first ones of the bitmap's picture, which has the sampled size.
 pub record IsSampled (boxes : BoxValue) (picture : Picture) (pixels rest : List ℕ) : Type 0 where
   pub wide : picture.width ≡ sampled_side boxes.width boxes.sample
   pub high : picture.height ≡ sampled_side boxes.height boxes.sample

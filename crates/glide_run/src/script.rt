@@ -181,7 +181,7 @@ fn is_request(view: &[u8], url: &[u8], sig: &[u8]) -> bool
     sig.len() <= 64
 }
 
-// What a load with these words asks for.
+// What a load with these words asks for, if each of them is one that its place takes.
 fn request_of<'a>(words: &[&'a [u8]]) -> Option<Request<'a>>
     requires { 8 ≤ length words.now }
     ensures key { option_map request_key result ≡ key_of (map (λ w. w.now) words.now) }
@@ -204,6 +204,7 @@ fn request_of<'a>(words: &[&'a [u8]]) -> Option<Request<'a>>
     })
 }
 
+// What a line of at least eight words asks for.
 fn load_of<'a>(words: &[&'a [u8]]) -> Command<'a>
     requires { 8 ≤ length words.now }
     ensures { command_by result ≡ load_command (map (λ w. w.now) words.now) }
