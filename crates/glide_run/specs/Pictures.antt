@@ -15,16 +15,23 @@ use Rattle.transforms.specs.Sizes.{target_size}
 use Rattle.transforms.specs.Moved.{moved}
 use Rattle.glide_run.specs.Script.{Key}
 
--- why a text has no picture: no known kind, a kind or header that is not built yet, too few bytes, or too many pixels
+-- why a text has no picture: it is of no known kind, or of one that is not built yet; it breaks a rule of its kind; or it is too large
 pub data Refusal : Type 0 where
   Unknown : Refusal
   Unbuilt : Refusal
+  BadNumber : Refusal
+  BadSize : Refusal
+  BadMaximum : Refusal
+  SampleAbove : Refusal
   Truncated : Refusal
   TooLarge : Refusal
 
 abbrev pub refusal_of : PpmFault → Refusal
 refusal_of faults.BadMagic = Unknown
-refusal_of faults.Unbuilt = Unbuilt
+refusal_of faults.BadNumber = BadNumber
+refusal_of faults.BadSize = BadSize
+refusal_of faults.BadMaximum = BadMaximum
+refusal_of faults.SampleAbove = SampleAbove
 refusal_of faults.Truncated = Truncated
 
 -- ---- the sizes, which are a width and a height

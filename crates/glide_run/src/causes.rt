@@ -6,6 +6,8 @@ use ppm_read::PpmFault;
 pub enum Refusal {
     /// It begins with the magic of no kind of picture.
     Unknown,
+    /// It begins as a Windows bitmap, which is not read yet.
+    Unbuilt,
     /// It breaks a rule of the Netpbm reader.
     Ppm(PpmFault),
     /// The source, or what would be shown of it, is beyond the limits on sides and pixels.

@@ -16,7 +16,7 @@ use crate::plan::{Plan, plan_of};
 use crate::raster::{put_rows, put_sampled_rows};
 use bitmap_kind::Bitmap;
 use outside::NoMemory;
-use ppm_read::{Head, PpmFault, Rows, read_head};
+use ppm_read::{Head, Rows, read_head};
 use sampling::BoxRows;
 use std::alloc::Global;
 use transforms::transform;
@@ -123,7 +123,7 @@ pub fn decode(alloc: Global, text: &[u8], key: &EngineKey) -> Result<Bitmap, Dec
     ensures { Decodes result (picture_of text.now (key_by key.now)) }
 {
     if text.starts_with(b"BM") {
-        return Err(DecodeFault::Refused(Refusal::Ppm(PpmFault::Unbuilt)));
+        return Err(DecodeFault::Refused(Refusal::Unbuilt));
     }
     let head = match read_head(text) {
         Ok(head) => head,

@@ -4,9 +4,10 @@ ghost use Rattle.std.specs.Fmt.{decimal};
 ghost use Rattle.hex.specs.Hex.{encode_lower};
 ghost use Rattle.sha2.specs.Sha256.{sha256};
 ghost use Rattle.outside.specs.Causes.{HasCause};
-ghost use Rattle.glide_run.specs.Printed.{cause_text, config_word, picture_head, state_head, state_picture, line_as, lines_as, line_text, lines_text};
+ghost use Rattle.glide_run.specs.Printed.{refusal_text, cause_text, config_word, picture_head, state_head, state_picture, line_as, lines_as, line_text, lines_text};
 ghost use Rattle.glide_run.specs.Effects.{WritesFront};
-ghost use Rattle.glide_run.specs.CodeTypes.{cause_by, state_by, view_by, views_by, form_by};
+ghost use Rattle.glide_run.specs.Pictures.{refusal_of};
+ghost use Rattle.glide_run.specs.CodeTypes.{refusal_by, cause_by, state_by, view_by, views_by, form_by};
 
 use crate::causes::{Cause, Refusal};
 use crate::views::{View, ViewState};
@@ -98,17 +99,39 @@ pub fn write_digest<W: Sink>(out: &mut W, bytes: &[u8]) -> Result<(), WriteFault
     write_digits(out, &digest, &mut digits)
 }
 
+// What a line says of a view whose text is refused by the Netpbm reader.
+fn fault_line(fault: PpmFault) -> &'static [u8]
+    ensures { result.now ≡ codes "failed refused " ++ refusal_text (refusal_of fault) }
+{
+    match fault {
+        PpmFault::BadMagic => b"failed refused unknown",
+        PpmFault::BadNumber => b"failed refused bad-number",
+        PpmFault::BadSize => b"failed refused bad-size",
+        PpmFault::BadMaximum => b"failed refused bad-maximum",
+        PpmFault::SampleAbove => b"failed refused sample-above",
+        PpmFault::Truncated => b"failed refused truncated",
+    }
+}
+
+// What a line says of a view whose text is refused.
+fn refusal_line(refusal: Refusal) -> &'static [u8]
+    ensures { result.now ≡ codes "failed refused " ++ refusal_text (refusal_by refusal) }
+{
+    match refusal {
+        Refusal::Unknown => b"failed refused unknown",
+        Refusal::Unbuilt => b"failed refused unbuilt",
+        Refusal::Ppm(fault) => fault_line(fault),
+        Refusal::TooLarge => b"failed refused too-large",
+    }
+}
+
 // Why a view failed, as its line says it.
 fn cause_text(cause: Cause) -> &'static [u8]
     ensures { result.now ≡ codes "failed " ++ cause_text (cause_by cause) }
 {
     match cause {
         Cause::Missing => b"failed missing",
-        Cause::Refused(Refusal::Unknown) => b"failed refused unknown",
-        Cause::Refused(Refusal::Ppm(PpmFault::BadMagic)) => b"failed refused unknown",
-        Cause::Refused(Refusal::Ppm(PpmFault::Unbuilt)) => b"failed refused unbuilt",
-        Cause::Refused(Refusal::Ppm(PpmFault::Truncated)) => b"failed refused truncated",
-        Cause::Refused(Refusal::TooLarge) => b"failed refused too-large",
+        Cause::Refused(refusal) => refusal_line(refusal),
         Cause::Source => b"failed source",
         Cause::Memory => b"failed memory",
         Cause::Uncached => b"failed uncached",

@@ -135,11 +135,105 @@ fn pictures(rt: HostRuntime) -> Result<(), Fail> {
         &rt,
         alloc,
         b"P5\n1 1\n255\n\x07",
-        b"a failed refused unbuilt\n",
-        1,
+        b"a pixels 070707ff\n",
+        0,
     )?;
     check_red(&rt, alloc, b"BM", b"a failed refused unbuilt\n", 1)?;
     check_red(&rt, alloc, b"hello", b"a failed refused unknown\n", 1)?;
+    Ok(())
+}
+
+// Each kind and spelling of Netpbm's pictures, and each refusal that a text may have.
+#[test]
+fn netpbm_kinds(rt: HostRuntime) -> Result<(), Fail> {
+    let alloc = rt.alloc();
+    check_red(
+        &rt,
+        alloc,
+        b"P5\n2 1\n1\n\x00\x01",
+        b"a pixels 000000ffffffffff\n",
+        0,
+    )?;
+    check_red(
+        &rt,
+        alloc,
+        b"P3\n# c\n1 1\n15\n0 7 15\n",
+        b"a pixels 0077ffff\n",
+        0,
+    )?;
+    check_red(
+        &rt,
+        alloc,
+        b"P5\n1 1\n65535\n\x80\x00",
+        b"a pixels 808080ff\n",
+        0,
+    )?;
+    check_red(
+        &rt,
+        alloc,
+        b"P2 2 1 9 0\r\n9",
+        b"a pixels 000000ffffffffff\n",
+        0,
+    )?;
+    Ok(())
+}
+
+#[test]
+fn broken_rules(rt: HostRuntime) -> Result<(), Fail> {
+    let alloc = rt.alloc();
+    check_red(&rt, alloc, b"P6", b"a failed refused truncated\n", 1)?;
+    check_red(&rt, alloc, b"P6#x", b"a failed refused truncated\n", 1)?;
+    check_red(
+        &rt,
+        alloc,
+        b"P6 4294967296 1 255 ",
+        b"a failed refused bad-number\n",
+        1,
+    )?;
+    check_red(
+        &rt,
+        alloc,
+        b"P6 1 1 255#c\n\n\x01\x02\x03",
+        b"a failed refused bad-number\n",
+        1,
+    )?;
+    check_red(&rt, alloc, b"P6 0 1 ", b"a failed refused bad-size\n", 1)?;
+    check_red(
+        &rt,
+        alloc,
+        b"P5 1 1 65536 ",
+        b"a failed refused bad-maximum\n",
+        1,
+    )?;
+    check_red(
+        &rt,
+        alloc,
+        b"P5 1 1 1 \x02",
+        b"a failed refused sample-above\n",
+        1,
+    )?;
+    check_red(
+        &rt,
+        alloc,
+        b"P2 1 1 9 10",
+        b"a failed refused sample-above\n",
+        1,
+    )?;
+    // A side above 16,384, and more than 33,554,432 pixels.
+    check_red(
+        &rt,
+        alloc,
+        b"P6\n16385 1\n255\n",
+        b"a failed refused too-large\n",
+        1,
+    )?;
+    check_red(
+        &rt,
+        alloc,
+        b"P6 16384 16384 255 ",
+        b"a failed refused too-large\n",
+        1,
+    )?;
     Ok(())
 }
 

@@ -1,6 +1,12 @@
+pub mod Chains
+pub mod Gaps
 pub mod Headers
-pub mod Outcomes
-pub mod Pixmaps
-pub mod RasterLemmas
-pub mod Sides
-pub mod Sizes
+pub mod Numbers
+pub mod Pixels
+pub mod PlainRows
+pub mod Rasters
+pub mod RawRows
+pub mod RawSamples
+pub mod RowSteps
+pub mod Samples
+pub mod Spelled

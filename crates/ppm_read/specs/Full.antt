@@ -1,5 +1,4 @@
--- The full picture of a text, or the first rule that it breaks. The picture is that of Netpbm's ppm(5); that a broken rule
--- has a name, and which of several comes first, is this project's own: the first in the order of the text.
+-- The full picture of a text, or the first rule that it breaks.
 use Rattle.std.specs.Prelude.{ℕ, List, Ok, Err, Some, None, Result, drop}
 use Rattle.std.specs.List.{concat}
 use Rattle.std.specs.declared.option.Option.{Option}
@@ -22,7 +21,7 @@ unless_fault (Some fault) x = Err fault
 
 -- the rows that a text has behind its header; what stands behind the last row is ignored
 abbrev pub rows_under : Head → List ℕ → RowsLeft
-rows_under head text = rows_of head.height head.width (drop head.raster_start text)
+rows_under head text = rows_of head head.height (drop head.raster_start text)
 
 -- the rows one behind the other
 abbrev pub full_picture_under : Head → List ℕ → Result FullPicture PpmFault

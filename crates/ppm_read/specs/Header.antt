@@ -1,51 +1,55 @@
--- The header of a portable pixmap, part by part: `P6`, a line feed, the width, a space, the height, a line feed, `255` and a
--- line feed. It is Netpbm's ppm(5) with one byte of white space between the parts, no comment and the maximum 255. The limits
--- on sides and pixels, and that a side has no leading zero, are this project's own.
-use Rattle.std.specs.Prelude.{ℕ, ◌-◌, ◌*◌, Bool, false, not, ◌&&◌, ◌||◌, ◌==◌, nat_le, nat_lt, nat_eq, List, [], ◌∷◌, length, drop, if◌then◌else◌, Ok, Err, Result}
-use Rattle.std.specs.List.{take_while, starts_with}
-use Rattle.std.specs.Char.{is_ascii_digit}
-use Rattle.std.specs.Str.Parse.{digits_value}
+-- The header, part by part, as Netpbm's ppm(5) and pgm(5) have it: the magic number, the width, the height and the maximum, with
+-- white space or comments between them, and where the samples are raw one white byte. That no comment stands directly before
+-- the samples, and which fault comes first, is this project's own.
+use Rattle.std.specs.Prelude.{ℕ, ◌-◌, ◌&&◌, ◌==◌, nat_le, nat_lt, List, [], ◌∷◌, length, drop, if◌then◌else◌, Ok, Err, Result, false}
 use Rattle.ppm_read.specs.declared.fault.PpmFault.{PpmFault}
-use Rattle.ppm_read.specs.declared.fault.PpmFault.TheVariants.{BadMagic, Unbuilt}
+use Rattle.ppm_read.specs.declared.fault.PpmFault.TheVariants.{BadMagic, BadSize, BadMaximum}
+use Rattle.ppm_read.specs.declared.header.Channels.{Channels}
+use Rattle.ppm_read.specs.declared.header.Channels.TheVariants.{Grey, Colour}
+use Rattle.ppm_read.specs.declared.header.Format.{Format}
+use Rattle.ppm_read.specs.declared.header.Format.TheVariants.{Plain, Raw}
 use Rattle.ppm_read.specs.declared.header.Head.{Head}
 use Rattle.ppm_read.specs.Reading.{◌>>=◌}
+use Rattle.ppm_read.specs.Number.{is_white, missing_at, begins_with, gap_at, number_at}
 
--- `0` to `9`, as ppm(5) writes its numbers
-abbrev pub is_digit : ℕ → Bool
-is_digit = is_ascii_digit
+-- the kinds: `P2` is plain grey, `P3` plain colour, `P5` raw grey and `P6` raw colour
+abbrev pub kind_of : ℕ → Result (Channels × Format) PpmFault
+kind_of digit = if digit == 50 then Ok (Grey, Plain) else (if digit == 51 then Ok (Colour, Plain)
+    else (if digit == 53 then Ok (Grey, Raw) else (if digit == 54 then Ok (Colour, Raw) else Err BadMagic)))
 
--- the text behind this front
-abbrev pub text_at : List ℕ → List ℕ → Result (List ℕ) PpmFault
-text_at front text = if starts_with nat_eq text front then Ok (drop (length front) text) else Err Unbuilt
+-- the kind that the magic number stands for, and the text behind it
+abbrev pub magic_at : List ℕ → Result (Channels × Format × List ℕ) PpmFault
+magic_at [] = Err BadMagic
+magic_at (p ∷ []) = Err BadMagic
+magic_at (p ∷ digit ∷ rest) = if p == 80 then kind_of digit >>= (λ kind. Ok (kind.0, kind.1, rest)) else Err BadMagic
 
--- digits that spell a number from 1 to 16,384, the first of them not 0
-abbrev pub is_side : List ℕ → Bool
-is_side digits = not (starts_with nat_eq digits (48 ∷ [])) && nat_lt 0 (digits_value 10 digits) && nat_le (digits_value 10 digits) 16384
+-- a number of the header, which more text follows
+abbrev pub part_at : List ℕ → Result (ℕ × List ℕ) PpmFault
+part_at text = gap_at text >>= number_at false
 
--- a side, which is all digits that come, and the text behind it
-abbrev pub side_at : List ℕ → Result (ℕ × List ℕ) PpmFault
-side_at text =
-    let digits = take_while is_digit text in
-    if is_side digits then Ok (digits_value 10 digits, drop (length digits) text) else Err Unbuilt
+-- the width and the height, which are tested when both are read
+unfoldable pub size_at : List ℕ → Result (ℕ × ℕ × List ℕ) PpmFault
+size_at text = do
+  width ← part_at text
+  height ← part_at width.1
+  if nat_lt 0 width.0 && nat_lt 0 height.0 then Ok (width.0, height.0, height.1) else Err BadSize
 
--- the width, the height and the raster with what stands behind it
-unfoldable pub header_at : List ℕ → Result (ℕ × ℕ × List ℕ) PpmFault
-header_at text = do
-  rest ← text_at (80 ∷ 54 ∷ 10 ∷ []) text
-  w ← side_at rest
-  rest ← text_at (32 ∷ []) w.1
-  h ← side_at rest
-  rest ← text_at (10 ∷ 50 ∷ 53 ∷ 53 ∷ 10 ∷ []) h.1
-  if nat_le (w.0 * h.0) 33554432 then Ok (w.0, h.0, rest) else Err Unbuilt
+-- the maximum of a sample
+unfoldable pub maximum_at : List ℕ → Result (ℕ × List ℕ) PpmFault
+maximum_at text = do
+  maximum ← part_at text
+  if nat_lt 0 maximum.0 && nat_le maximum.0 65535 then Ok maximum else Err BadMaximum
 
--- `P2`, `P3`, `P5` or `P6`: the magic numbers of ppm(5) and pgm(5)
-abbrev pub has_magic : List ℕ → Bool
-has_magic [] = false
-has_magic (p ∷ []) = false
-has_magic (p ∷ kind ∷ rest) = p == 80 && (kind == 50 || kind == 51 || kind == 53 || kind == 54)
+-- the raster: raw samples begin behind one white byte, plain ones with the white bytes before the first
+abbrev pub raster_at : Format → List ℕ → Result (List ℕ) PpmFault
+raster_at Plain text = Ok text
+raster_at Raw text = if begins_with is_white text then Ok (drop 1 text) else Err (missing_at text)
 
--- the size, and where the raster begins
+-- the size, the kind and the maximum, and where the raster begins
 unfoldable pub head_of : List ℕ → Result Head PpmFault
-head_of text = if has_magic text
-    then header_at text >>= (λ found. Ok record { width = found.0; height = found.1; raster_start = length text - length found.2 })
-    else Err BadMagic
+head_of text = do
+  kind ← magic_at text
+  size ← size_at kind.2
+  maximum ← maximum_at size.2
+  raster ← raster_at kind.1 maximum.1
+  Ok record { width = size.0; height = size.1; channels = kind.0; format = kind.1; maximum = maximum.0; raster_start = length text - length raster }

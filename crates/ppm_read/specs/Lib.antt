@@ -1,6 +1,9 @@
 pub mod Reading
+pub mod Number
 pub mod Header
 pub mod Raster
+pub mod Raw
+pub mod Plain
 pub mod Full
+pub mod Spelling
 pub mod Size
-pub mod Pixmap

@@ -1,14 +1,76 @@
--- The rows of a raster: in Netpbm's ppm(5) they come from the top, each from the left, three bytes a pixel. That they are
--- given one by one, each as red, green, blue and alpha, and what a call leaves, are this project's own.
-use Rattle.std.specs.Prelude.{◌≡◌, ℕ, zero, suc, ◌*◌, nat_lt, List, [], ◌∷◌, length, take, drop, if◌then◌else◌, Ok, Err, Some, None, Result, Bool, true, false, ⊤}
+-- The raster, as Netpbm's ppm(5) and pgm(5) have it: the rows come from the top, each from the left, a sample for each grey pixel
+-- and three, red, green and blue, for each pixel of colour. That comments do not stand among plain samples, and which fault
+-- comes first, is this project's own.
+use Rattle.std.specs.Prelude.{◌≡◌, ℕ, zero, suc, ◌+◌, ◌*◌, ◌/◌, ◌&&◌, ◌==◌, nat_lt, List, [], ◌∷◌, map, if◌then◌else◌, Ok, Err, Some, None, Result, Bool, true, false, ⊤}
 use Rattle.std.specs.declared.option.Option.{Option}
 use Rattle.ppm_read.specs.declared.fault.PpmFault.{PpmFault}
-use Rattle.ppm_read.specs.declared.fault.PpmFault.TheVariants.{Truncated}
+use Rattle.ppm_read.specs.declared.fault.PpmFault.TheVariants.{SampleAbove, Truncated}
+use Rattle.ppm_read.specs.declared.header.Channels.{Channels}
+use Rattle.ppm_read.specs.declared.header.Channels.TheVariants.{Grey, Colour}
+use Rattle.ppm_read.specs.declared.header.Format.{Format}
+use Rattle.ppm_read.specs.declared.header.Format.TheVariants.{Plain, Raw}
+use Rattle.ppm_read.specs.declared.header.Head.{Head}
+use Rattle.ppm_read.specs.Reading.{◌>>=◌}
+use Rattle.ppm_read.specs.Number.{is_white, behind, missing_at, begins_with, number_at}
 
--- a red, a green and a blue sample a pixel, in the order of ppm(5), as red, green, blue and an alpha that hides what is behind
-abbrev pub rgba : List ℕ → List ℕ
-rgba (r ∷ g ∷ b ∷ rest) = r ∷ g ∷ b ∷ 255 ∷ rgba rest
-rgba rest = []
+-- a raw sample of one byte
+abbrev pub byte_at : List ℕ → Result (ℕ × List ℕ) PpmFault
+byte_at [] = Err Truncated
+byte_at (b ∷ rest) = Ok (b, rest)
+
+-- a raw sample of two bytes, the high one first
+abbrev pub word_at : List ℕ → Result (ℕ × List ℕ) PpmFault
+word_at [] = Err Truncated
+word_at (high ∷ []) = Err Truncated
+word_at (high ∷ low ∷ rest) = Ok (256 * high + low, rest)
+
+-- A plain sample: a number behind one or more white bytes. The last one of a raster may end with the text.
+abbrev pub plain_at : Bool → List ℕ → Result (ℕ × List ℕ) PpmFault
+plain_at last text = if begins_with is_white text then number_at last (behind is_white text) else Err (missing_at text)
+
+-- a sample as it is spelled: raw ones have one byte where the maximum is below 256, else two
+abbrev pub spelled_at : Format → ℕ → Bool → List ℕ → Result (ℕ × List ℕ) PpmFault
+spelled_at Plain maximum last text = plain_at last text
+spelled_at Raw maximum last text = if nat_lt maximum 256 then byte_at text else word_at text
+
+-- a sample, which is not above the maximum
+abbrev pub at_most : ℕ → ℕ × List ℕ → Result (ℕ × List ℕ) PpmFault
+at_most maximum sample = if nat_lt maximum sample.0 then Err SampleAbove else Ok sample
+
+abbrev pub sample_at : Format → ℕ → Bool → List ℕ → Result (ℕ × List ℕ) PpmFault
+sample_at format maximum last text = spelled_at format maximum last text >>= at_most maximum
+
+-- So many samples, one behind the other, and the text behind them. `last` says that they are the raster's last ones.
+abbrev pub samples_at : Format → ℕ → Bool → ℕ → List ℕ → Result (List ℕ × List ℕ) PpmFault
+samples_at format maximum last zero text = Ok ([], text)
+samples_at format maximum last (suc count) text = do
+  sample ← sample_at format maximum (last && count == 0) text
+  others ← samples_at format maximum last count sample.1
+  Ok (sample.0 ∷ others.0, others.1)
+
+-- a sample as a number up to 255: its share of the maximum, rounded, halves up
+abbrev pub scaled : ℕ → ℕ → ℕ
+scaled maximum sample = (255 * sample + maximum / 2) / maximum
+
+abbrev pub channel_count : Channels → ℕ
+channel_count Grey = 1
+channel_count Colour = 3
+
+-- pixels of red, green, blue and an alpha that hides what is behind; grey is the same of each
+abbrev pub rgba : Channels → List ℕ → List ℕ
+rgba Grey [] = []
+rgba Grey (v ∷ rest) = v ∷ v ∷ v ∷ 255 ∷ rgba Grey rest
+rgba Colour (r ∷ g ∷ b ∷ rest) = r ∷ g ∷ b ∷ 255 ∷ rgba Colour rest
+rgba Colour rest = []
+
+-- so many pixels of a row, and the text behind them; `last` says that they are the raster's last ones
+unfoldable pub pixels_at : Head → Bool → ℕ → List ℕ → Result (List ℕ × List ℕ) PpmFault
+pixels_at head last count text = do
+  samples ← samples_at head.format head.maximum last (channel_count head.channels * count) text
+  Ok (rgba head.channels (map (scaled head.maximum) samples.0), samples.1)
+
+abbrev pub row_at : Head → Bool → List ℕ → Result (List ℕ × List ℕ) PpmFault
+row_at head last text = pixels_at head last head.width text
 
 -- the rows that are left, from the top, and the fault that comes after them, if one does
 pub record RowsLeft : Type 0 where
@@ -16,16 +78,27 @@ pub record RowsLeft : Type 0 where
   pub rows : List (List ℕ)
   pub fault : Option PpmFault
 
--- a row before those that are left
 abbrev pub with_row : List ℕ → RowsLeft → RowsLeft
 with_row row left = record left { rows = row ∷ left.rows }
 
--- so many rows of this width; that a raster is too short is found at the row that lacks a byte
-abbrev pub rows_of : ℕ → ℕ → List ℕ → RowsLeft
-rows_of zero width raster = record { width = width; rows = []; fault = None }
-rows_of (suc height) width raster = if nat_lt (length raster) (3 * width)
-    then record { width = width; rows = []; fault = Some Truncated }
-    else with_row (rgba (take (3 * width) raster)) (rows_of height width (drop (3 * width) raster))
+-- a row and those below it; or the fault in its place
+abbrev pub row_then : ℕ → Result (List ℕ × List ℕ) PpmFault → (List ℕ → RowsLeft) → RowsLeft
+row_then width (Ok row) below = with_row row.0 (below row.1)
+row_then width (Err fault) below = record { width = width; rows = []; fault = Some fault }
+
+-- so many rows; that a text breaks a rule is found at the row where it does
+abbrev pub rows_of : Head → ℕ → List ℕ → RowsLeft
+rows_of head zero text = record { width = head.width; rows = []; fault = None }
+rows_of head (suc height) text = row_then head.width (row_at head (height == 0) text) (λ rest. rows_of head height rest)
+
+-- what the code's reading of one row answers, and what it leaves in the row's buffer
+abbrev pub ReadsRow : {X : Type 0} → (X → List ℕ) → Result X PpmFault → List ℕ → List ℕ → Result (List ℕ × List ℕ) PpmFault → Type 0
+ReadsRow view (Ok rest) old new read = read ≡ Ok (new, view rest)
+ReadsRow view (Err fault) old new read = (read ≡ Err fault) × (new ≡ old)
+
+-- the text behind a row, or its fault
+abbrev pub behind_row : Result (List ℕ × List ℕ) PpmFault → Result (List ℕ) PpmFault
+behind_row row = row >>= (λ found. Ok found.1)
 
 -- What a call answers, with the row that it wrote, and what is left afterwards: the next row; or false, where none is left and
 -- no fault comes; or the fault, again at each later call.

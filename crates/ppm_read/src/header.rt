@@ -1,117 +1,141 @@
 // The header: the magic number, the two sides and the maximum.
-ghost use Rattle.std.specs.Prelude.{◌≡◌, ◌<◌, ◌≤◌, length, Ok, IfOk};
-ghost use Rattle.std.specs.List.{prefix_len};
-ghost use Rattle.std.specs.Str.Parse.{AllDigits, digits_value};
+ghost use Rattle.std.specs.Prelude.{◌≡◌, ◌≤◌, length, IfOk};
 ghost use Rattle.ppm_read.specs.Reading.{Gives};
 ghost use Rattle.ppm_read.specs.Size.{IsPictureSize};
-ghost use Rattle.ppm_read.specs.Header.{is_digit, text_at, side_at, header_at, has_magic, head_of};
+ghost use Rattle.ppm_read.specs.Header.{kind_of, magic_at, part_at, size_at, maximum_at, raster_at, head_of};
 
 use crate::fault::PpmFault;
+use crate::number::{after_gap, begins_white, missing, number};
 
-/// The longest side, in pixels: this project's own limit.
-const MAX_SIDE: u32 = 16_384;
+// What a pixel is made of: one sample, or red, green and blue.
+#[derive(Clone, Copy, Debug, PartialEq, Eq)]
+pub(crate) enum Channels {
+    Grey,
+    Colour,
+}
 
-/// The most pixels of a picture: this project's own limit.
-const MAX_PIXELS: u64 = 33_554_432;
+// How samples are written: as decimal numbers, or as bytes.
+#[derive(Clone, Copy, Debug, PartialEq, Eq)]
+pub(crate) enum Format {
+    Plain,
+    Raw,
+}
 
-/// A picture's size in pixels, and where its raster begins in the text that it was read from.
+/// A picture's size in pixels, and how and where its raster stands in the text that it was read
+/// from.
 #[derive(Clone, Copy, Debug, PartialEq, Eq)]
 pub struct Head {
     pub width: u32,
     pub height: u32,
+    pub(crate) channels: Channels,
+    pub(crate) format: Format,
+    // What a sample of full strength is, from 1 on.
+    pub(crate) maximum: u16,
     pub(crate) raster_start: usize,
 }
 
-// The text behind this front.
-fn text_after<'a>(text: &'a [u8], front: &[u8]) -> Result<&'a [u8], PpmFault>
-    ensures { Gives (λ rest. rest.now) result (text_at front.now text.now) }
+// The kind that the digit of a magic number stands for.
+fn kind_of(digit: u8) -> Result<(Channels, Format), PpmFault>
+    ensures { Gives (λ kind. kind) result (kind_of digit) }
 {
-    if text.starts_with(front) {
-        Ok(&text[front.len()..])
-    } else {
-        Err(PpmFault::Unbuilt)
+    match digit {
+        b'2' => Ok((Channels::Grey, Format::Plain)),
+        b'3' => Ok((Channels::Colour, Format::Plain)),
+        b'5' => Ok((Channels::Grey, Format::Raw)),
+        b'6' => Ok((Channels::Colour, Format::Raw)),
+        _ => Err(PpmFault::BadMagic),
     }
 }
 
-// How many digits the text begins with.
-fn digit_count(text: &[u8]) -> usize
-    ensures count { result ≡ prefix_len is_digit text.now }
-    ensures bound { result ≤ length text.now }
+// The kind of the text, and the text after its magic number.
+fn magic(text: &[u8]) -> Result<(Channels, Format, &[u8]), PpmFault>
+    ensures read { Gives (λ found. (found.0, found.1, found.2.now)) result (magic_at text.now) }
+    ensures within { IfOk result (λ found. length found.2.now ≤ length text.now) }
 {
-    text.iter().take_while(|byte| byte.is_ascii_digit()).count()
+    let [b'P', digit, rest @ ..] = text else {
+        return Err(PpmFault::BadMagic);
+    };
+    let (channels, format) = kind_of(*digit)?;
+    Ok((channels, format, rest))
 }
 
-// A side, and the text after it.
-fn side_of(text: &[u8]) -> Result<(u32, &[u8]), PpmFault>
-    ensures { Gives (λ found. (found.0, found.1.now)) result (side_at text.now) }
+// A number of the header, and the text after it.
+fn part(text: &[u8]) -> Result<(u32, &[u8]), PpmFault>
+    ensures read { Gives (λ found. (found.0, found.1.now)) result (part_at text.now) }
+    ensures within { IfOk result (λ found. length found.1.now ≤ length text.now) }
 {
-    let (digits, rest) = text.split_at(digit_count(text));
-    if digits.starts_with(b"0") {
-        return Err(PpmFault::Unbuilt);
-    }
-    // Six digits with no leading zero are above the longest side.
-    if digits.len() > 5 {
-        return Err(PpmFault::Unbuilt);
-    }
-    let side = value_of(digits);
-    if side == 0 || side > MAX_SIDE {
-        return Err(PpmFault::Unbuilt);
-    }
-    Ok((side, rest))
+    number(after_gap(text)?, false)
 }
 
-// The number that the digits spell.
-fn value_of(digits: &[u8]) -> u32
-    requires digits { AllDigits 10 digits.now }
-    requires few { digits_value 10 digits.now < 100000 }
-    ensures { result ≡ digits_value 10 digits.now }
+// The width, the height and the text after them.
+#[tactic(auto, unfolding(crate::specs::Header::size_at))]
+fn size(text: &[u8]) -> Result<(u32, u32, &[u8]), PpmFault>
+    ensures sides { IfOk result (λ found. (1 ≤ found.0) × (1 ≤ found.1)) }
+    ensures read { Gives (λ found. (found.0, found.1, found.2.now)) result (size_at text.now) }
+    ensures within { IfOk result (λ found. length found.2.now ≤ length text.now) }
 {
-    let mut value = 0;
-    for digit in digits {
-        value = value * 10 + u32::from(*digit - b'0');
+    let (width, rest) = part(text)?;
+    let (height, rest) = part(rest)?;
+    if width == 0 {
+        return Err(PpmFault::BadSize);
     }
-    value
-}
-
-// The width, the height and the text after the header.
-#[tactic(auto, unfolding(crate::specs::Header::header_at))]
-fn header_of(text: &[u8]) -> Result<(u32, u32, &[u8]), PpmFault>
-    ensures { Gives (λ found. (found.0, found.1, found.2.now)) result (header_at text.now) }
-{
-    let rest = text_after(text, b"P6\n")?;
-    let (width, rest) = side_of(rest)?;
-    let rest = text_after(rest, b" ")?;
-    let (height, rest) = side_of(rest)?;
-    let rest = text_after(rest, b"\n255\n")?;
-    if u64::from(width) * u64::from(height) > MAX_PIXELS {
-        return Err(PpmFault::Unbuilt);
+    if height == 0 {
+        return Err(PpmFault::BadSize);
     }
     Ok((width, height, rest))
 }
 
-fn is_magic(text: &[u8]) -> bool
-    ensures { result ≡ has_magic text.now }
+// The maximum of a sample, and the text after it.
+#[tactic(auto, unfolding(crate::specs::Header::maximum_at))]
+fn maximum(text: &[u8]) -> Result<(u16, &[u8]), PpmFault>
+    ensures read { Gives (λ found. (found.0, found.1.now)) result (maximum_at text.now) }
+    ensures within { IfOk result (λ found. length found.1.now ≤ length text.now) }
 {
-    matches!(text, [b'P', b'2' | b'3' | b'5' | b'6', ..])
+    let (maximum, rest) = part(text)?;
+    if maximum == 0 {
+        return Err(PpmFault::BadMaximum);
+    }
+    if maximum > 65_535 {
+        return Err(PpmFault::BadMaximum);
+    }
+    Ok((maximum as u16, rest))
+}
+
+// The text from where the raster begins.
+fn raster(format: Format, text: &[u8]) -> Result<&[u8], PpmFault>
+    ensures read { Gives (λ rest. rest.now) result (raster_at format text.now) }
+    ensures within { IfOk result (λ rest. length rest.now ≤ length text.now) }
+{
+    if format == Format::Plain {
+        return Ok(text);
+    }
+    if !begins_white(text) {
+        return Err(missing(text));
+    }
+    let (_, rest) = text.split_at(1);
+    Ok(rest)
 }
 
 /// Reads the header that a text begins with, and looks at nothing behind it.
 ///
-/// The header is `P6`, a line feed, the width, a space, the height, a line feed, `255` and a line
-/// feed, a picture of ppm(5) in its plainest spelling. A side has 1 to 16,384 pixels and no leading
-/// zero, and the picture has at most 33,554,432.
+/// The header is that of Netpbm's ppm(5) and pgm(5): `P2`, `P3`, `P5` or `P6`, the width, the height
+/// and the maximum, with white space or comments before each number. Where the samples are raw, one
+/// white byte ends it. Both sides are from 1 to 4,294,967,295, and the maximum from 1 to 65,535.
 #[tactic(auto, unfolding(crate::specs::Header::head_of))]
 pub fn read_head(bytes: &[u8]) -> Result<Head, PpmFault>
     ensures head { result ≡ head_of bytes.now }
     ensures size { IfOk result IsPictureSize }
 {
-    if !is_magic(bytes) {
-        return Err(PpmFault::BadMagic);
-    }
-    let (width, height, raster) = header_of(bytes)?;
+    let (channels, format, rest) = magic(bytes)?;
+    let (width, height, rest) = size(rest)?;
+    let (maximum, rest) = maximum(rest)?;
+    let raster = raster(format, rest)?;
     Ok(Head {
         width,
         height,
+        channels,
+        format,
+        maximum,
         raster_start: bytes.len() - raster.len(),
     })
 }

@@ -1,13 +1,17 @@
-//! Reads the rows of a portable pixmap: Netpbm's `P6` with the maximum 255, in its plainest spelling.
+//! Reads the rows of the grey and colour pictures of Netpbm: `P2`, `P3`, `P5` and `P6`.
 #![tactic(auto)]
 
 mod fault;
 mod grammar;
 mod header;
+mod number;
+mod pixel;
+mod plain;
+mod raw;
 mod rows;
 
 pub use fault::PpmFault;
-pub use grammar::every_text_has_its_outcome;
+pub use grammar::every_picture_is_spelled;
 pub use header::{Head, read_head};
 pub use rows::Rows;
 

@@ -1,42 +1,50 @@
 // The rows of the raster, from the top.
-ghost use Rattle.std.specs.Prelude.{◌≡◌, ◌*◌, length, Ok};
+ghost use Rattle.std.specs.Prelude.{◌≡◌, ◌≤◌, ◌*◌, length, Ok};
 ghost use Rattle.ppm_read.specs.Header.{head_of};
-ghost use Rattle.ppm_read.specs.Raster.{rgba, RowStep, KeepsBuffer};
+ghost use Rattle.ppm_read.specs.Raster.{row_at, ReadsRow, RowStep, KeepsBuffer};
 ghost use Rattle.ppm_read.specs.Size.{HasRows};
 ghost use Rattle.ppm_read.specs.Full.{rows_under};
 
 use crate::fault::PpmFault;
-use crate::header::Head;
+use crate::header::{Format, Head};
+use crate::plain::plain_row;
+use crate::raw::raw_row;
 use std::marker::Model;
 
 /// The rows of a picture that are still to be read, from the top, and the fault that comes in place
-/// of the first that the text is too short for.
+/// of the first row in which the text breaks a rule.
 #[derive(Drop)]
 pub struct Rows<'a> {
-    raster: &'a [u8],
-    width: u32,
+    text: &'a [u8],
+    head: Head,
     height_left: u32,
 }
 
 impl<'a> Model for Rows<'a> {
+    ghost use Rattle.std.specs.Prelude.{◌≤◌};
     ghost use Rattle.ppm_read.specs.Raster.{RowsLeft, rows_of};
 
     ghost Value = { RowsLeft };
 
-    ghost view = { λ s. rows_of s.height_left s.width s.raster.now };
+    ghost view = { λ s. rows_of s.head s.height_left s.text.now };
+
+    ghost invariant = { λ s. 1 ≤ s.head.maximum };
 }
 
-// Writes a row of red, green and blue as red, green, blue and alpha.
-fn write_rgba(row: &[u8], into: &mut [u8], width: usize)
-    requires row { length row.now ≡ 3 * width }
-    requires into { length into.old ≡ 4 * width }
-    ensures { into.new ≡ rgba row.now }
+// Reads a row into the buffer, and gives the text after it.
+fn read_row<'a>(
+    text: &'a [u8],
+    head: Head,
+    last: bool,
+    into: &mut [u8],
+) -> Result<&'a [u8], PpmFault>
+    requires maximum { 1 ≤ head.maximum }
+    requires into { length into.old ≡ 4 * head.width }
+    ensures { ReadsRow (λ rest. rest.now) result into.old into.new (row_at head last text.now) }
 {
-    for x in 0..width {
-        into[4 * x] = row[3 * x];
-        into[4 * x + 1] = row[3 * x + 1];
-        into[4 * x + 2] = row[3 * x + 2];
-        into[4 * x + 3] = 255;
+    match head.format {
+        Format::Plain => plain_row(text, head, last, into),
+        Format::Raw => raw_row(text, head, into),
     }
 }
 
@@ -49,16 +57,20 @@ impl<'a> Rows<'a> {
         ensures count { HasRows head.height result }
         ensures width { result.width ≡ head.width }
     {
-        let (_, raster) = bytes.split_at(head.raster_start);
+        let (_, text) = bytes.split_at(head.raster_start);
         Rows {
-            raster,
-            width: head.width,
+            text,
+            head,
             height_left: head.height,
         }
     }
 
-    /// Writes the next row, four bytes a pixel: red, green, blue and an alpha of 255. After the last
-    /// row it answers false.
+    /// Writes the next row, four bytes a pixel: red, green, blue and an alpha of 255. A sample v of
+    /// the maximum m is written as `(255 * v + m / 2) / m`, and a grey one as the same of each.
+    /// After the last row it answers false.
+    ///
+    /// `Truncated`, `BadNumber` (in a plain raster) and `SampleAbove` come in the place of the row in
+    /// which the text breaks that rule, and again at each later call.
     pub fn next_row(&mut self, into: &mut [u8]) -> Result<bool, PpmFault>
         requires { length into.old ≡ 4 * self.old.width }
         ensures step { RowStep self.old result into.new self.new }
@@ -67,13 +79,8 @@ impl<'a> Rows<'a> {
         if self.height_left == 0 {
             return Ok(false);
         }
-        let width = self.width as usize;
-        if self.raster.len() < 3 * width {
-            return Err(PpmFault::Truncated);
-        }
-        let (row, rest) = self.raster.split_at(3 * width);
-        write_rgba(row, into, width);
-        self.raster = rest;
+        let rest = read_row(self.text, self.head, self.height_left == 1, into)?;
+        self.text = rest;
         self.height_left -= 1;
         Ok(true)
     }

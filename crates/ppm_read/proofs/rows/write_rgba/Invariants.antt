@@ -1,6 +1,0 @@
-use Rattle.std.proofs.Common.{◌≡◌, ◌*◌, ◌++◌, take, drop}
-use Rattle.ppm_read.specs.Raster.{rgba}
-use Rattle.ppm_read.proofs.rows.write_rgba.Given as goal
-
-abbrev pub invariant-loop-x : goal.invariant-loop-x
-invariant-loop-x l = take (4 * l.x) l.into ++ rgba (drop (3 * l.x) l.row) ≡ rgba l.row
