@@ -1,0 +1,117 @@
+-- What the rules of the headers say of a head.
+use Rattle.std.proofs.Common.{◌≡◌, ℕ, ◌+◌, ◌-◌, ◌*◌, ◌^◌, ◌≤◌, ◌<◌, ◌||◌, Bool, true, false, cond, eqb, ltb, leb, List, length, get_or, Result, Ok, Err, refl, sym, ap, subst, ◌∙◌, arith}
+use Rattle.std.proofs.lemmas.Bool.Decides.{nat_tests}
+use Rattle.bmp_read.specs.declared.fault.BmpFault.{BmpFault}
+use Rattle.bmp_read.specs.declared.fault.BmpFault.TheVariants.{BadSize, Truncated}
+use Rattle.bmp_read.specs.declared.header.Head.{Head}
+use Rattle.bmp_read.specs.declared.header.RowOrder.{RowOrder}
+use Rattle.bmp_read.specs.declared.header.RowOrder.TheVariants.{TopFirst, BottomFirst}
+use Rattle.bmp_read.specs.declared.format.Format.{Format}
+use Rattle.bmp_read.specs.declared.format.Format.TheVariants.{Indexed1, Indexed4, Indexed8, Rgb555, Bgr24, Bgr32, Masked16, Masked32}
+use Rattle.bmp_read.specs.declared.format.Masks.{Masks}
+use Rattle.bmp_read.specs.declared.format.Palette.{Palette}
+use Rattle.bmp_read.specs.Reading.{◌>>=◌}
+use Rattle.bmp_read.specs.Bytes.{u32_at}
+use Rattle.bmp_read.specs.Header.{info_size_at, size_at, depth_at, masks_at, palette_count, palette_at, indexed, masked, direct, format_of, head_of}
+use Rattle.bmp_read.specs.Pixel.{IsPaletteInside, HasPalette}
+
+-- a part that is read
+bind_ok : {A B : Type 0} (r : Result A BmpFault) (f : A → Result B BmpFault) (y : B) → (r >>= f) ≡ Ok y → (x : A) × (r ≡ Ok x) × (f x ≡ Ok y)
+bind_ok (Ok x) f y e = (x, refl, e)
+bind_ok (Err d) f y e = cc
+
+-- a rule that holds
+rule_ok : {A : Type 0} (broken : Bool) (d : BmpFault) (r : Result A BmpFault) (y : A) → cond broken (Err d) r ≡ Ok y → (broken ≡ false) × (r ≡ Ok y)
+rule_ok true d r y e = cc
+rule_ok false d r y e = (refl, e)
+
+-- bytes make a number of 32 bits
+u32_at-bound : (at : ℕ) (text : List ℕ) → ((i : ℕ) → get_or text i 0 < 256) → u32_at at text < 2 ^ 32
+u32_at-bound at text bytes = omega (arith, bytes at, bytes (at + 1), bytes (at + 2), bytes (at + 3))
+
+-- the size by the sign of the height
+abbrev by_sign : ℕ → ℕ → Bool → Result (ℕ × ℕ × RowOrder) BmpFault
+by_sign width height true = Ok (width, height, BottomFirst)
+by_sign width height false = Ok (width, 2 ^ 32 - height, TopFirst)
+
+by_sign-is : (width height : ℕ) (above : Bool) → cond above (Ok (width, height, BottomFirst)) (Ok (width, 2 ^ 32 - height, TopFirst)) ≡ by_sign width height above
+by_sign-is width height true = refl
+by_sign-is width height false = refl
+
+high_by_sign : (width height : ℕ) (above : Bool) (found : ℕ × ℕ × RowOrder) → 0 < height → height < 2 ^ 32 → by_sign width height above ≡ Ok found → 1 ≤ found.1
+high_by_sign width height true found positive bound e = let h : height ≡ found.1 = cc in omega arith
+high_by_sign width height false found positive bound e = let h : 2 ^ 32 - height ≡ found.1 = cc in omega arith
+
+not_zero : (height : ℕ) → (eqb height 0 || eqb height (2 ^ 31)) ≡ false → 0 < height
+not_zero height e = grind (arith, nat_tests)
+
+-- the height that is read is at least 1
+high : (text : List ℕ) (found : ℕ × ℕ × RowOrder) → ((i : ℕ) → get_or text i 0 < 256) → size_at text ≡ Ok found → 1 ≤ found.1
+unfolding size_at
+high text found bytes e =
+    let width : ℕ = u32_at 18 text in
+    let height : ℕ = u32_at 22 text in
+    let signed : Result (ℕ × ℕ × RowOrder) BmpFault = cond (ltb height (2 ^ 31)) (Ok (width, height, BottomFirst)) (Ok (width, 2 ^ 32 - height, TopFirst)) in
+    let first = rule_ok (eqb width 0 || leb (2 ^ 31) width) BadSize (cond (eqb height 0 || eqb height (2 ^ 31)) (Err BadSize) signed) found e in
+    let second = rule_ok (eqb height 0 || eqb height (2 ^ 31)) BadSize signed found first.1 in
+    high_by_sign width height (ltb height (2 ^ 31)) found (not_zero height second.0) (u32_at-bound 22 text bytes) (sym (by_sign-is width height (ltb height (2 ^ 31))) ∙ second.1)
+
+inside : (n end : ℕ) → ltb n end ≡ false → end ≤ n
+inside n end e = grind (arith, nat_tests)
+
+-- a palette that is read lies inside the text
+palette_inside : (info_size bits : ℕ) (text : List ℕ) (palette : Palette) → palette_at info_size bits text ≡ Ok palette → IsPaletteInside palette text
+unfolding palette_at
+palette_inside info_size bits text palette e =
+    let start : ℕ = 14 + info_size in
+    let count : ℕ = palette_count bits (u32_at 46 text) in
+    let rule = rule_ok (ltb (length text) (start + 4 * count)) Truncated (Ok record { start = start; count = count }) palette e in
+    let made : Palette = record { start = start; count = count } in
+    let is : made ≡ palette = cc (rule.1) in
+    subst (λ palette. IsPaletteInside palette text) is (inside (length text) (start + 4 * count) rule.0)
+
+no_masked_palette : (b : Bool) (masks : Masks) (text : List ℕ) → HasPalette (cond b (Masked16 masks) (Masked32 masks)) text
+no_masked_palette true masks text = tt
+no_masked_palette false masks text = tt
+
+no_direct_palette : (a b : Bool) (text : List ℕ) → HasPalette (cond a Rgb555 (cond b Bgr24 Bgr32)) text
+no_direct_palette true b text = tt
+no_direct_palette false true text = tt
+no_direct_palette false false text = tt
+
+indexed_palette : (a b : Bool) (palette : Palette) (text : List ℕ) → IsPaletteInside palette text → HasPalette (cond a (Indexed1 palette) (cond b (Indexed4 palette) (Indexed8 palette))) text
+indexed_palette true b palette text h = h
+indexed_palette false true palette text h = h
+indexed_palette false false palette text h = h
+
+by_kind : (by_masks by_palette : Bool) (info_size bits : ℕ) (text : List ℕ) (format : Format)
+    → cond by_masks (masks_at info_size bits text >>= (λ masks. Ok (masked bits masks)))
+    (cond by_palette (palette_at info_size bits text >>= (λ palette. Ok (indexed bits palette))) (Ok (direct bits))) ≡ Ok format → HasPalette format text
+by_kind true by_palette info_size bits text format e =
+    let read = bind_ok (masks_at info_size bits text) (λ masks. Ok (masked bits masks)) format e in
+    let is : masked bits read.0 ≡ format = cc (read.2) in
+    subst (λ format. HasPalette format text) is (no_masked_palette (eqb bits 16) read.0 text)
+by_kind false true info_size bits text format e =
+    let read = bind_ok (palette_at info_size bits text) (λ palette. Ok (indexed bits palette)) format e in
+    let is : indexed bits read.0 ≡ format = cc (read.2) in
+    subst (λ format. HasPalette format text) is (indexed_palette (eqb bits 1) (eqb bits 4) read.0 text (palette_inside info_size bits text read.0 read.1))
+by_kind false false info_size bits text format e =
+    let is : direct bits ≡ format = cc in
+    subst (λ format. HasPalette format text) is (no_direct_palette (eqb bits 16) (eqb bits 24) text)
+
+format_palette : (info_size compression bits : ℕ) (text : List ℕ) (format : Format) → format_of info_size compression bits text ≡ Ok format → HasPalette format text
+unfolding format_of
+format_palette info_size compression bits text format e = by_kind (eqb compression 3) (leb bits 8) info_size bits text format e
+
+-- the facts of a head that rows need
+pub head_facts : (text : List ℕ) (head : Head) → ((i : ℕ) → get_or text i 0 < 256) → head_of text ≡ Ok head → (1 ≤ head.height) × HasPalette head.format text
+unfolding head_of
+head_facts text head bytes e =
+    let one = bind_ok (info_size_at text) _ head e in
+    let two = bind_ok (size_at text) _ head one.2 in
+    let three = bind_ok (depth_at text) _ head two.2 in
+    let four = bind_ok (format_of one.0 three.0.0 three.0.1 text) _ head three.2 in
+    let is : record { width = two.0.0; height = two.0.1; order = two.0.2; format = four.0; raster_start = u32_at 10 text } ≡ head = cc (four.2) in
+    let height : two.0.1 ≡ head.height = ap (λ head. head.height) is in
+    let format : four.0 ≡ head.format = ap (λ head. head.format) is in
+    (omega (arith, height, high text two.0 bytes two.1), subst (λ format. HasPalette format text) format (format_palette one.0 three.0.0 three.0.1 text four.0 four.1))

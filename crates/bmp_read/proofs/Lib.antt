@@ -1,0 +1,4 @@
+pub mod Columns
+pub mod Heads
+pub mod Lowering
+pub mod RowSteps

@@ -1,0 +1,92 @@
+// Rows of indexes into a palette.
+ghost use Rattle.std.specs.Prelude.{◌≡◌, ◌≤◌, ◌<◌, ◌/◌, ◌+◌, ◌*◌, length, slice_index};
+ghost use Rattle.bmp_read.specs.Pixel.{rgba, palette_colour, index1, index4, IsPaletteInside};
+ghost use Rattle.bmp_read.specs.Raster.{pixels};
+
+use crate::format::Palette;
+use crate::pixel::{Rgba, bgr, put_pixel};
+
+// The colour of an index, which is opaque black where the palette has none.
+fn palette_colour(text: &[u8], palette: Palette, index: u8) -> Rgba
+    requires { IsPaletteInside palette text.now }
+    ensures { rgba result ≡ palette_colour palette text.now index }
+{
+    if usize::from(index) < palette.count {
+        return bgr(text, palette.start + 4 * usize::from(index));
+    }
+    Rgba {
+        red: 0,
+        green: 0,
+        blue: 0,
+        alpha: 255,
+    }
+}
+
+fn index1(row: &[u8], x: usize) -> u8
+    requires { x / 8 < length row.now }
+    ensures { result ≡ index1 row.now x }
+{
+    (row[x / 8] >> (7 - x % 8)) % 2
+}
+
+fn index4(row: &[u8], x: usize) -> u8
+    requires { x / 2 < length row.now }
+    ensures { result ≡ index4 row.now x }
+{
+    if x % 2 == 0 {
+        row[x / 2] >> 4
+    } else {
+        row[x / 2] % 16
+    }
+}
+
+pub(crate) fn write_indexed1(
+    text: &[u8],
+    palette: Palette,
+    row: &[u8],
+    into: &mut [u8],
+    width: usize,
+)
+    requires palette { IsPaletteInside palette text.now }
+    requires row { width ≤ 8 * length row.now }
+    requires into { length into.old ≡ 4 * width }
+    ensures { into.new ≡ pixels (λ x. palette_colour palette text.now (index1 row.now x)) width }
+{
+    for x in 0..width {
+        put_pixel(into, x, palette_colour(text, palette, index1(row, x)));
+    }
+}
+
+pub(crate) fn write_indexed4(
+    text: &[u8],
+    palette: Palette,
+    row: &[u8],
+    into: &mut [u8],
+    width: usize,
+)
+    requires palette { IsPaletteInside palette text.now }
+    requires row { width ≤ 2 * length row.now }
+    requires into { length into.old ≡ 4 * width }
+    ensures { into.new ≡ pixels (λ x. palette_colour palette text.now (index4 row.now x)) width }
+{
+    for x in 0..width {
+        put_pixel(into, x, palette_colour(text, palette, index4(row, x)));
+    }
+}
+
+pub(crate) fn write_indexed8(
+    text: &[u8],
+    palette: Palette,
+    row: &[u8],
+    into: &mut [u8],
+    width: usize,
+)
+    requires palette { IsPaletteInside palette text.now }
+    requires row { width ≤ length row.now }
+    requires into { length into.old ≡ 4 * width }
+    ensures { into.new ≡ pixels (λ x. palette_colour palette text.now (slice_index row.now x)) width }
+{
+    for x in 0..width {
+        put_pixel(into, x, palette_colour(text, palette, row[x]));
+    }
+}

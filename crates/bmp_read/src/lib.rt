@@ -1,0 +1,18 @@
+//! Reads the rows of Windows bitmaps: uncompressed, with a palette, with colours of 16, 24 or 32 bits, or
+//! with colours by masks.
+#![tactic(auto)]
+
+mod bytes;
+mod direct;
+mod fault;
+mod format;
+mod header;
+mod indexed;
+mod masked;
+mod masks;
+mod pixel;
+mod rows;
+
+pub use fault::BmpFault;
+pub use header::{Head, read_head};
+pub use rows::Rows;
