@@ -16,3 +16,6 @@ mod rows;
 pub use fault::BmpFault;
 pub use header::{Head, read_head};
 pub use rows::Rows;
+
+#[cfg(test)]
+mod tests;
