@@ -1,4 +1,5 @@
--- The full picture of a text, or the first rule that it breaks.
+-- The full picture of a text, or the first rule that it breaks. The picture is that of Netpbm's ppm(5) and pgm(5); that a
+-- broken rule has a name, and which of several comes first, is this project's own: the first in the order of the text.
 use Rattle.std.specs.Prelude.{ℕ, List, Ok, Err, Some, None, Result, drop}
 use Rattle.std.specs.List.{concat}
 use Rattle.std.specs.declared.option.Option.{Option}

@@ -11,6 +11,7 @@ use Rattle.ppm_read.specs.declared.fault.PpmFault.TheVariants.{BadNumber, Trunca
 abbrev pub is_white : ℕ → Bool
 is_white c = c == 9 || c == 10 || c == 13 || c == 32
 
+-- a line feed or a carriage return, before which a comment ends
 abbrev pub is_line_end : ℕ → Bool
 is_line_end c = c == 10 || c == 13
 
@@ -18,6 +19,7 @@ is_line_end c = c == 10 || c == 13
 abbrev pub begins_comment : ℕ → Bool
 begins_comment c = c == 35
 
+-- `0` to `9`
 abbrev pub is_digit : ℕ → Bool
 is_digit = is_ascii_digit
 

@@ -1,15 +1,17 @@
--- One pixel of plain samples, as the code reads it.
+-- One pixel of plain samples, as the code reads it: this project's own way to say the same of a pixel alone.
 use Rattle.std.specs.Prelude.{ℕ, Bool, false, List, [], ◌∷◌, Ok, Result}
 use Rattle.ppm_read.specs.declared.fault.PpmFault.{PpmFault}
 use Rattle.ppm_read.specs.declared.header.Format.TheVariants.{Plain}
 use Rattle.ppm_read.specs.Reading.{◌>>=◌}
 use Rattle.ppm_read.specs.Raster.{sample_at, scaled}
 
+-- one sample, as each of the colours
 abbrev pub grey_pixel_at : ℕ → Bool → List ℕ → Result (List ℕ × List ℕ) PpmFault
 grey_pixel_at maximum last text = do
   grey ← sample_at Plain maximum last text
   Ok (scaled maximum grey.0 ∷ scaled maximum grey.0 ∷ scaled maximum grey.0 ∷ 255 ∷ [], grey.1)
 
+-- red, green and blue
 abbrev pub colour_pixel_at : ℕ → Bool → List ℕ → Result (List ℕ × List ℕ) PpmFault
 colour_pixel_at maximum last text = do
   red ← sample_at Plain maximum false text

@@ -37,6 +37,7 @@ spelled_at Raw maximum last text = if nat_lt maximum 256 then byte_at text else 
 abbrev pub at_most : ℕ → ℕ × List ℕ → Result (ℕ × List ℕ) PpmFault
 at_most maximum sample = if nat_lt maximum sample.0 then Err SampleAbove else Ok sample
 
+-- a sample that keeps to its spelling and its maximum, and the text behind it
 abbrev pub sample_at : Format → ℕ → Bool → List ℕ → Result (ℕ × List ℕ) PpmFault
 sample_at format maximum last text = spelled_at format maximum last text >>= at_most maximum
 
@@ -52,6 +53,7 @@ samples_at format maximum last (suc count) text = do
 abbrev pub scaled : ℕ → ℕ → ℕ
 scaled maximum sample = (255 * sample + maximum / 2) / maximum
 
+-- how many samples a pixel has
 abbrev pub channel_count : Channels → ℕ
 channel_count Grey = 1
 channel_count Colour = 3
@@ -69,6 +71,7 @@ pixels_at head last count text = do
   samples ← samples_at head.format head.maximum last (channel_count head.channels * count) text
   Ok (rgba head.channels (map (scaled head.maximum) samples.0), samples.1)
 
+-- a whole row
 abbrev pub row_at : Head → Bool → List ℕ → Result (List ℕ × List ℕ) PpmFault
 row_at head last text = pixels_at head last head.width text
 
@@ -78,6 +81,7 @@ pub record RowsLeft : Type 0 where
   pub rows : List (List ℕ)
   pub fault : Option PpmFault
 
+-- a row above those that are left
 abbrev pub with_row : List ℕ → RowsLeft → RowsLeft
 with_row row left = record left { rows = row ∷ left.rows }
 
@@ -90,6 +94,8 @@ row_then width (Err fault) below = record { width = width; rows = []; fault = So
 abbrev pub rows_of : Head → ℕ → List ℕ → RowsLeft
 rows_of head zero text = record { width = head.width; rows = []; fault = None }
 rows_of head (suc height) text = row_then head.width (row_at head (height == 0) text) (λ rest. rows_of head height rest)
+
+-- ---- what the calls answer: this project's own
 
 -- what the code's reading of one row answers, and what it leaves in the row's buffer
 abbrev pub ReadsRow : {X : Type 0} → (X → List ℕ) → Result X PpmFault → List ℕ → List ℕ → Result (List ℕ × List ℕ) PpmFault → Type 0

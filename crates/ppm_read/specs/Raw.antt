@@ -1,4 +1,4 @@
--- The raw samples of whole rows, as the code reads them.
+-- The raw samples of whole rows, as the code reads them: this project's own way to say the same of a row's bytes at once.
 use Rattle.std.specs.Prelude.{ℕ, ◌+◌, ◌*◌, nat_lt, List, [], ◌∷◌, if◌then◌else◌}
 
 -- samples of two bytes, the high one first; a last byte alone is none
@@ -10,5 +10,6 @@ words rest = []
 abbrev pub sample_length : ℕ → ℕ
 sample_length maximum = if nat_lt maximum 256 then 1 else 2
 
+-- the samples of these bytes
 abbrev pub raw_samples : ℕ → List ℕ → List ℕ
 raw_samples maximum bytes = if nat_lt maximum 256 then bytes else words bytes

@@ -16,10 +16,12 @@ pub data GapPart : Type 0 where
   White : ℕ → GapPart
   Comment : List ℕ → ℕ → GapPart
 
+-- its bytes
 abbrev pub gap_bytes : GapPart → List ℕ
 gap_bytes (White c) = c ∷ []
 gap_bytes (Comment bytes end) = 35 ∷ (bytes ++ end ∷ [])
 
+-- a white byte is one, no line end stands within a comment, and one stops it
 abbrev pub is_gap_part : GapPart → Bool
 is_gap_part (White c) = is_white c
 is_gap_part (Comment bytes end) = list_all (λ c. not (is_line_end c)) bytes && is_line_end end
@@ -83,6 +85,7 @@ abbrev pub IsRawSample : Bool → ℕ → List ℕ → Type 0
 IsRawSample true v bytes = bytes ≡ v ∷ []
 IsRawSample false v bytes = (high : ℕ) × (low : ℕ) × (v ≡ 256 * high + low) × (bytes ≡ high ∷ low ∷ [])
 
+-- a sample in the format's spelling
 abbrev pub IsSample : Format → ℕ → ℕ → List ℕ → Type 0
 IsSample Plain maximum v bytes = IsPlainSample v bytes
 IsSample Raw maximum v bytes = IsRawSample (nat_lt maximum 256) v bytes
