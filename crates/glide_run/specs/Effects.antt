@@ -1,4 +1,4 @@
--- What a call did to the source and the sink that it was handed.
+-- What a call did to the source and the sink that it was handed. It is this project's own, in the words of the outside.
 use Rattle.std.specs.Prelude.{◌≡◌, ◌≢◌, ℕ, ◌≤◌, List, [], ◌++◌, OnSome}
 use Rattle.std.specs.declared.option.Option.{Option}
 use Rattle.std.specs.Io.KnownBytes.{Appends}

@@ -1,4 +1,4 @@
--- How a run ends: what the contract of the top call says.
+-- How a run ends: what the contract of the top call says. Statuses, texts and promises are this project's own.
 use Rattle.std.specs.Prelude.{◌≡◌, ◌≢◌, ℕ, ◌≤◌, ◌⊎◌, true, List, [], ◌++◌, Some, None, IfSome, MatchOption, ⊤, codes, Bool, ◌∷◌, length, if◌then◌else◌}
 use Rattle.std.specs.declared.option.Option.{Option}
 use Rattle.std.specs.List.{list_any}
@@ -52,6 +52,7 @@ IsAnswer content commands status wo wn = (status ≡ 4) ⊎ (Appends wo wn (outp
 abbrev pub IsOrStops : ℕ → ℕ → Type 0
 IsOrStops wanted status = (status ≡ wanted) ⊎ ((status ≡ 4) ⊎ (status ≡ 6))
 
+-- the line for refused words
 abbrev pub usage_text : List ℕ
 usage_text = codes "glide: bad usage" ++ 10 ∷ []
 
@@ -66,13 +67,16 @@ IsFlushed written flushed = MatchOption written ⊤ (λ bytes. flushed ≡ lengt
 
 -- ---- within the crate
 
+-- what is written last: the number of a bad line, or nothing
 abbrev pub ending_text : Option ℕ → List ℕ
 ending_text None = []
 ending_text (Some number) = bad_line_text number
 
+-- the status of a script that ended, by its bad line and by whether a printed line says failed
 abbrev pub bad_status : Option ℕ → Bool → ℕ
 bad_status None failing = if failing then 1 else 0
 bad_status (Some number) failing = 3
 
+-- the same, of the code's value
 abbrev pub ended_status : Ended → ℕ
 ended_status ended = bad_status ended.bad ended.failing

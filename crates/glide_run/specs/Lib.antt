@@ -12,3 +12,4 @@ pub mod Reading
 pub mod ReaderView
 pub mod Obeying
 pub mod Ending
+pub mod Worked

@@ -1,4 +1,4 @@
--- What the calls that obey a line, or a script, answer and leave. Only this crate's own calls say it; the top call says what the walk does.
+-- What the calls that obey a line, or a script, answer and leave. It is this project's own. Only this crate's calls say it; the top call says what the walk does.
 use Rattle.std.specs.Prelude.{◌≡◌, ℕ, ◌+◌, ◌≤◌, Bool, true, false, List, [], ◌∷◌, ◌++◌, length, ⊤, Some, None, IfSome, MatchResult, ◌⊎◌, Result, Ok, Err, IsOk}
 use Rattle.std.specs.declared.option.Option.{Option}
 use Rattle.std.specs.List.{list_any}
@@ -61,6 +61,7 @@ abbrev pub EndsAt : Option ℕ → List Command → List Command → List Seen �
 EndsAt None done left views = left ≡ []
 EndsAt (Some number) done left views = (number ≡ length done + 1) × IsBadNext views left
 
+-- how a script ended: by its last line or a bad one, and whether a printed line says failed
 abbrev pub EndIs : Result Ended Stop → List Command → List Command → List PrintedLine → List Seen → Type 0
 EndIs (Ok ended) done left lines views = (ended.failing ≡ list_any says_failed lines) × EndsAt ended.bad done left views
 EndIs (Err stop) done left lines views = ⊤

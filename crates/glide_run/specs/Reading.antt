@@ -1,4 +1,4 @@
--- What a reader of lines has before it.
+-- What a reader of lines has before it, and what it gives. It is this project's own.
 use Rattle.std.specs.Prelude.{◌≡◌, ℕ, ◌<◌, Bool, ◌==◌, List, [], ◌∷◌, ◌++◌, length, Some, None, IfSome, ⊤, Result, Ok, Err}
 use Rattle.std.specs.declared.option.Option.{Option}
 use Rattle.std.specs.Option.{option_map}
@@ -19,6 +19,7 @@ pub record ReaderValue : Type 0 where
 abbrev pub commands_before : ReaderValue → Option (List ℕ) → Option (List Command)
 commands_before reader left = option_map (commands_within reader.room) (prepend_known reader.pending left)
 
+-- whether a line feed is among the bytes
 abbrev pub has_line_feed : List ℕ → Bool
 has_line_feed bytes = list_any (λ byte. byte == 10) bytes
 

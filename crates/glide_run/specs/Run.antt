@@ -1,4 +1,4 @@
--- What the running code does, step by step: the relation between the views, the lines printed and the fetches that failed. Its law is that each run is a walk with licensed marks.
+-- What the running code does, step by step: the relation between the views, the lines printed and the fetches that failed. Its law is that each run is a walk with licensed marks. It is this project's own, and serves the proof and what is promised where no content is told.
 use Rattle.std.specs.Prelude.{◌≡◌, ℕ, ◌+◌, Bool, true, false, List, [], ◌∷◌, ◌++◌, ⊤, IfSome}
 use Rattle.std.specs.declared.option.Option.{Option}
 use Rattle.std.specs.FinMap.{get}
@@ -9,6 +9,7 @@ use Rattle.glide_run.specs.Printed.{Pixels, Digest, PrintedLine, lines_as}
 
 -- ---- one request, and one gather
 
+-- what a fetch adds to the failed ones
 abbrev pub failures_of : Key → Bool → List Address
 failures_of key true = address_of key ∷ []
 failures_of key false = []
@@ -32,6 +33,7 @@ SettlesAt content (Running note) old failed new = (new ≡ record old { state = 
 SettlesAt content (Complete picture) old failed new = (new ≡ old) × (failed ≡ [])
 SettlesAt content (Failed cause) old failed new = (new ≡ old) × (failed ≡ [])
 
+-- the same, of a view with its own state
 abbrev pub Settles : Option Contents → Seen → List Address → Seen → Type 0
 Settles content old failed new = SettlesAt content old.state old failed new
 
@@ -42,6 +44,7 @@ Gathers content (v ∷ vs) failed (w ∷ ws) = (one : List Address) × (others :
 Gathers content [] failed (w ∷ ws) = ⊥
 Gathers content (v ∷ vs) failed [] = ⊥
 
+-- 1 for a request that runs
 abbrev pub running_at : State ⊤ → ℕ
 running_at (Running note) = 1
 running_at (Complete picture) = 0
@@ -78,6 +81,7 @@ Run content old (command ∷ commands) lines failed new =
     (mid : List Seen) × (l : List PrintedLine) × (ls : List PrintedLine) × (f : List Address) × (fs : List Address)
     × (lines ≡ l ++ ls) × (failed ≡ f ++ fs) × Step content old command l f mid × Run content mid commands ls fs new
 
+-- how many requests a line begins
 abbrev pub begin_in : Command → ℕ
 begin_in Nothing = 0
 begin_in Bad = 0

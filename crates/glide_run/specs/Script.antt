@@ -66,6 +66,7 @@ words line = filter (λ word. not (length word == 0)) (slice_split (λ byte. byt
 abbrev pub word : List (List ℕ) → ℕ → List ℕ
 word ws place = get_or ws place []
 
+-- a letter, a digit, `_`, `-` or `.`
 abbrev pub is_name_byte : ℕ → Bool
 is_name_byte byte = is_ascii_alphanumeric byte || byte == 95 || byte == 45 || byte == 46
 
@@ -121,6 +122,7 @@ key_of ws = do
   rule ← rule_of ws
   Some record { url = word ws 2; sig = word ws 3; width = width; height = height; transform = transform; config = config; rule = rule }
 
+-- a load in this view, or a bad line
 abbrev pub load_of : List ℕ → Option Key → Command
 load_of view None = Bad
 load_of view (Some key) = Load view key
@@ -137,6 +139,7 @@ dump_command verb view = if bytes_eq verb (codes "dump") && is_name view then Du
 abbrev pub show_command : List ℕ → Command
 show_command verb = if bytes_eq verb (codes "show") then Show else Bad
 
+-- what a line with these words asks for
 abbrev pub words_command : List (List ℕ) → Command
 words_command ws = if length ws == 0 then Nothing else if length ws == 1 then show_command (word ws 0) else if length ws == 2 then dump_command (word ws 0) (word ws 1) else if nat_le 8 (length ws) then load_command ws else Bad
 
@@ -149,6 +152,7 @@ abbrev pub is_comment : List (List ℕ) → Bool
 is_comment ((byte ∷ rest) ∷ more) = byte == 35
 is_comment other = false
 
+-- what a line asks for that has no carriage return at its end
 abbrev pub trimmed_command : List ℕ → Command
 trimmed_command line = if nat_lt 2048 (length line) then Bad else if is_comment (words line) then Nothing
     else if list_all is_line_byte line then words_command (words line) else Bad

@@ -1,4 +1,4 @@
--- Views, and what becomes of the pictures that are asked for in them.
+-- Views, and what becomes of the pictures that are asked for in them. A view stands for one of Android's on the screen, and its states for those of Glide's request; that there is a script of them, and at most 4,096, is this project's own.
 use Rattle.std.specs.Prelude.{ℕ, Bool, false, ◌||◌, nat_lt, List, [], ◌∷◌, ◌++◌, length, map, if◌then◌else◌, Ok, Err, Some, None, Result, ⊤}
 use Rattle.std.specs.declared.option.Option.{Option}
 use Rattle.std.specs.Str.{bytes_eq}
@@ -31,19 +31,23 @@ pub record View (N : Type 0) : Type 0 where
 abbrev pub Seen : Type 0
 Seen = View ⊤
 
+-- a state without what is noted
 abbrev pub seen_state : {N : Type 0} → State N → State ⊤
 seen_state (Running note) = Running tt
 seen_state (Complete picture) = Complete picture
 seen_state (Failed cause) = Failed cause
 
+-- a view without what is noted
 abbrev pub seen : {N : Type 0} → View N → Seen
 seen view = record { name = view.name; key = view.key; state = seen_state view.state }
 
 -- ---- what a fetch leads to
 
+-- where the text of a picture is
 abbrev pub address_of : Key → Address
 address_of key = (key.url, key.sig)
 
+-- where a text was decoded, or refused
 abbrev pub decoded : {N : Type 0} → Result Picture Refusal → State N
 decoded (Ok picture) = Complete picture
 decoded (Err refusal) = Failed (Refused refusal)
@@ -55,17 +59,20 @@ fetched key (Some text) = decoded (picture_of text key)
 
 -- ---- views by name, in order of first load
 
+-- the names, in the order of the views
 abbrev pub names_of : {N : Type 0} → List (View N) → List (List ℕ)
 names_of views = map (λ view. view.name) views
 
+-- whether a name is among them
 abbrev pub has_name : List ℕ → List (List ℕ) → Bool
 has_name name [] = false
 has_name name (other ∷ names) = bytes_eq other name || has_name name names
 
--- There are at most 4,096 views.
+-- A view that is new can be made while there are fewer than 4,096.
 abbrev pub can_name : List ℕ → List (List ℕ) → Bool
 can_name name names = has_name name names || nat_lt (length names) 4096
 
+-- the names after a load in this view
 abbrev pub with_name : List ℕ → List (List ℕ) → List (List ℕ)
 with_name name names = if has_name name names then names else names ++ name ∷ []
 

@@ -1,4 +1,4 @@
--- The walk of a script: what a plain reading of it shows, given the content and which fetches fail. There is no reader, no source and no memory in it.
+-- The walk of a script: what a plain reading of it shows, given the content and which fetches fail. There is no reader, no source and no memory in it. All of it is this project's own, as the script is.
 use Rattle.std.specs.Prelude.{ℕ, ◌+◌, ◌≤◌, Bool, true, false, ◌&&◌, ◌==◌, List, [], ◌∷◌, ◌++◌, length, map, filter, count_by, if◌then◌else◌, Some, None}
 use Rattle.std.specs.declared.option.Option.{Option}
 use Rattle.std.specs.List.{list_any}
@@ -26,6 +26,7 @@ bad_line_from number names (Load view key ∷ commands) = if can_name view names
 bad_line_from number names (Dump view ∷ commands) = if has_name view names then bad_line_from (number + 1) names commands else Some number
 bad_line_from number names (Show ∷ commands) = bad_line_from (number + 1) names commands
 
+-- the number of the first bad line of a script, if it has one
 abbrev pub bad_line : List Command → Option ℕ
 bad_line commands = bad_line_from 1 [] commands
 
@@ -36,6 +37,7 @@ abbrev pub first_mark : List Bool → Bool
 first_mark [] = false
 first_mark (mark ∷ marks) = mark
 
+-- the marks of the begins behind the next
 abbrev pub other_marks : List Bool → List Bool
 other_marks [] = []
 other_marks (mark ∷ marks) = marks
@@ -47,6 +49,7 @@ settled_state content key (Running false) = fetched key (get content (address_of
 settled_state content key (Complete picture) = Complete picture
 settled_state content key (Failed cause) = Failed cause
 
+-- a view whose request is brought to its end
 abbrev pub settled : Contents → View Bool → View Bool
 settled content view = record { name = view.name; key = view.key; state = settled_state content view.key view.state }
 
@@ -78,6 +81,7 @@ status_of lines (Some number) = 3
 
 -- ---- the licence of the marks
 
+-- one transform
 abbrev pub same_transform : Transform → Transform → Bool
 same_transform transforms.Nothing transforms.Nothing = true
 same_transform transforms.Fit transforms.Fit = true
@@ -85,22 +89,26 @@ same_transform transforms.Crop transforms.Crop = true
 same_transform transforms.Inside transforms.Inside = true
 same_transform a b = false
 
+-- one config
 abbrev pub same_config : Config → Config → Bool
 same_config Argb8888 Argb8888 = true
 same_config Rgb565 Rgb565 = true
 same_config Alpha8 Alpha8 = true
 same_config a b = false
 
+-- one rule
 abbrev pub same_rule : Rule → Rule → Bool
 same_rule AtLeast AtLeast = true
 same_rule AtMost AtMost = true
 same_rule a b = false
 
+-- one picture, asked for in one way: what Glide's EngineKey compares
 abbrev pub same_key : Key → Key → Bool
 same_key a b =
     bytes_eq a.url b.url && bytes_eq a.sig b.sig && a.width == b.width && a.height == b.height
     && same_transform a.transform b.transform && same_config a.config b.config && same_rule a.rule b.rule
 
+-- one url and one signature
 abbrev pub same_address : Address → Address → Bool
 same_address a b = bytes_eq a.0 b.0 && bytes_eq a.1 b.1
 
@@ -114,6 +122,7 @@ marked_begins gathers marks (Load view key ∷ commands) =
 marked_begins gathers marks (Dump view ∷ commands) = marked_begins (gathers + 1) marks commands
 marked_begins gathers marks (Show ∷ commands) = marked_begins (gathers + 1) marks commands
 
+-- begins of one key between two gathers
 abbrev pub same_begin : ℕ × Key → ℕ × Key → Bool
 same_begin a b = a.0 == b.0 && same_key a.1 b.1
 
@@ -122,6 +131,7 @@ abbrev pub distinct : List (ℕ × Key) → List (ℕ × Key)
 distinct [] = []
 distinct (begin ∷ begins) = if list_any (same_begin begin) begins then distinct begins else begin ∷ distinct begins
 
+-- those whose key has this url and signature
 abbrev pub begins_at : Address → List (ℕ × Key) → List (ℕ × Key)
 begins_at address begins = filter (λ begin. same_address (address_of begin.1) address) begins
 

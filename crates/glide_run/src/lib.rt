@@ -20,3 +20,5 @@ pub use top::{Ending, glide_alone};
 
 #[cfg(test)]
 mod tests;
+#[cfg(test)]
+mod worked;

@@ -1,0 +1,36 @@
+// The walk itself on worked scripts: these contracts are proved by computing the definitions, and no code is run.
+ghost use Rattle.std.specs.Prelude.{◌≡◌, ◌∷◌, ◌++◌, [], codes, true, None};
+ghost use Rattle.std.specs.FinMap.{get};
+ghost use Rattle.outside.specs.Content.{Contents};
+ghost use Rattle.glide_run.specs.Script.{commands};
+ghost use Rattle.glide_run.specs.Walk.{output};
+ghost use Rattle.glide_run.specs.Worked.{text_of, Prints, Dumps};
+
+// One picture, in the forms that a line of `load` may ask for. The first is a red pixel and a blue one.
+fn worked_pictures()
+    ensures argb { Dumps (codes "P6 2 1 255 " ++ 255 ∷ 0 ∷ 0 ∷ 0 ∷ 0 ∷ 255 ∷ []) (codes "load a red 1 2 1 none argb") (codes "a pixels ff0000ff0000ffff") }
+    ensures rgb565 { Dumps (codes "P6 2 1 255 " ++ 255 ∷ 0 ∷ 0 ∷ 0 ∷ 0 ∷ 255 ∷ []) (codes "load a red 1 2 1 none rgb565") (codes "a pixels 00f81f00") }
+    ensures means { Dumps (codes "P2 4 2 255 0 1 2 4 3 0 5 6") (codes "load a red 1 2 1 none argb") (codes "a pixels 010101ff040404ff") }
+    ensures at_most { Dumps (codes "P2 4 1 255 1 2 3 4") (codes "load a red 1 2 1 none argb atmost") (codes "a pixels 020202ff040404ff") }
+    ensures fit { Dumps (codes "P2 3 2 255 1 2 3 4 5 6") (codes "load a red 1 2 2 fit argb") (codes "a pixels 040404ff060606ff") }
+    ensures crop { Dumps (codes "P2 4 1 255 1 2 3 4") (codes "load a red 1 2 1 crop argb") (codes "a pixels 020202ff030303ff") }
+{}
+
+// Why a text has no picture.
+fn worked_refusals()
+    ensures unknown { Dumps (codes "hello") (codes "load a red 1 2 1 none argb") (codes "a failed refused unknown") }
+    ensures truncated { Dumps (codes "P6 2 1 255 " ++ 255 ∷ 0 ∷ 0 ∷ 0 ∷ 0 ∷ []) (codes "load a red 1 2 1 none argb") (codes "a failed refused truncated") }
+    ensures long_side { Dumps (codes "P6 16385 1 255 ") (codes "load a red 1 1 1 none argb") (codes "a failed refused too-large") }
+    ensures large_target { Dumps (codes "P6 2 1 255 ") (codes "load a red 1 16384 16384 crop argb") (codes "a failed refused too-large") }
+    ensures missing { (content : Contents) → get content (codes "red", codes "1") ≡ None
+        → output content [] (commands (text_of (codes "load a red 1 2 1 none argb" ∷ codes "dump a" ∷ []))) ≡ text_of (codes "a failed missing" ∷ []) }
+{}
+
+// What a script prints whatever the content is.
+fn worked_lines()
+    ensures nothing { Prints [] [] [] }
+    ensures no_views { Prints [] (codes "# no view" ∷ codes "show" ∷ []) [] }
+    ensures failed_fetch { Prints (true ∷ []) (codes "load a red 1 2 1 none argb" ∷ codes "dump a" ∷ []) (codes "a failed source" ∷ []) }
+    ensures bad_line { Prints [] (codes "load a red 1 2 1 none argb" ∷ codes "dumb a" ∷ codes "dump a" ∷ []) (codes "glide: bad script line 2" ∷ []) }
+    ensures unknown_view { Prints [] (codes "dump z" ∷ []) (codes "glide: bad script line 1" ∷ []) }
+{}
