@@ -14,7 +14,14 @@ text_of (line ∷ lines) = line ++ 10 ∷ text_of lines
 abbrev pub Prints : List Bool → List (List ℕ) → List (List ℕ) → Type 0
 Prints marks script lines = (content : Contents) → output content marks (commands (text_of script)) ≡ text_of lines
 
--- The line makes a view `a` of the picture `red` of version `1`. Where that is this text, a dump prints this line.
+-- Where the picture `red` of version `1` is this text, and no fetch fails, the script prints this line.
+abbrev pub PrintsOf : List ℕ → List (List ℕ) → List ℕ → Type 0
+PrintsOf text script line = (content : Contents) → get content (codes "red", codes "1") ≡ Some text → output content [] (commands (text_of script)) ≡ text_of (line ∷ [])
+
+-- The same of a load of it in the view `a`, and a dump
 abbrev pub Dumps : List ℕ → List ℕ → List ℕ → Type 0
-Dumps text load line = (content : Contents) → get content (codes "red", codes "1") ≡ Some text
-    → output content [] (commands (text_of (load ∷ codes "dump a" ∷ []))) ≡ text_of (line ∷ [])
+Dumps text load line = PrintsOf text (load ∷ codes "dump a" ∷ []) line
+
+-- a load and a show
+abbrev pub Shows : List ℕ → List ℕ → List ℕ → Type 0
+Shows text load line = PrintsOf text (load ∷ codes "show" ∷ []) line

@@ -4,11 +4,12 @@ ghost use Rattle.std.specs.FinMap.{get};
 ghost use Rattle.outside.specs.Content.{Contents};
 ghost use Rattle.glide_run.specs.Script.{commands};
 ghost use Rattle.glide_run.specs.Walk.{output};
-ghost use Rattle.glide_run.specs.Worked.{text_of, Prints, Dumps};
+ghost use Rattle.glide_run.specs.Worked.{text_of, Prints, Dumps, Shows};
 
 // One picture, in the forms that a line of `load` may ask for. The first is a red pixel and a blue one.
 fn worked_pictures()
     ensures argb { Dumps (codes "P6 2 1 255 " ++ 255 ∷ 0 ∷ 0 ∷ 0 ∷ 0 ∷ 255 ∷ []) (codes "load a red 1 2 1 none argb") (codes "a pixels ff0000ff0000ffff") }
+    ensures digest { Shows (codes "P6 2 1 255 " ++ 255 ∷ 0 ∷ 0 ∷ 0 ∷ 0 ∷ 255 ∷ []) (codes "load a red 1 2 1 none argb") (codes "a shown 2 1 argb e0b8f3a91e53b2aee7be9493043f0d54efa0b1d7bfa018ea8f192295a7229836") }
     ensures rgb565 { Dumps (codes "P6 2 1 255 " ++ 255 ∷ 0 ∷ 0 ∷ 0 ∷ 0 ∷ 255 ∷ []) (codes "load a red 1 2 1 none rgb565") (codes "a pixels 00f81f00") }
     ensures means { Dumps (codes "P2 4 2 255 0 1 2 4 3 0 5 6") (codes "load a red 1 2 1 none argb") (codes "a pixels 010101ff040404ff") }
     ensures at_most { Dumps (codes "P2 4 1 255 1 2 3 4") (codes "load a red 1 2 1 none argb atmost") (codes "a pixels 020202ff040404ff") }
