@@ -79,9 +79,11 @@ stored_masks info_size text = record {
   alpha = if info_size == 40 then 0 else u32_at 66 text;
 }
 
+-- all four are
 abbrev pub are_masks : ℕ → Masks → Bool
 are_masks bits masks = is_mask bits masks.red && is_mask bits masks.green && is_mask bits masks.blue && is_mask bits masks.alpha
 
+-- the masks, or what is wrong with them
 unfoldable pub masks_at : ℕ → ℕ → List ℕ → Result Masks BmpFault
 masks_at info_size bits text =
     let masks = stored_masks info_size text in
@@ -99,16 +101,19 @@ palette_at info_size bits text =
     let count = palette_count bits (u32_at 46 text) in
     if nat_lt (length text) (start + 4 * count) then Err Truncated else Ok record { start = start; count = count }
 
--- how pixels of a palette, of masks and of neither are stored
+-- how pixels of a palette are stored
 abbrev pub indexed : ℕ → Palette → Format
 indexed bits palette = if bits == 1 then Indexed1 palette else (if bits == 4 then Indexed4 palette else Indexed8 palette)
 
+-- of masks
 abbrev pub masked : ℕ → Masks → Format
 masked bits masks = if bits == 16 then Masked16 masks else Masked32 masks
 
+-- of neither
 abbrev pub direct : ℕ → Format
 direct bits = if bits == 16 then Rgb555 else (if bits == 24 then Bgr24 else Bgr32)
 
+-- how pixels are stored, or what is wrong with masks or palette
 unfoldable pub format_of : ℕ → ℕ → ℕ → List ℕ → Result Format BmpFault
 format_of info_size compression bits text =
     if compression == 3 then masks_at info_size bits text >>= (λ masks. Ok (masked bits masks))

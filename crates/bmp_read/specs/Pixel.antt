@@ -40,6 +40,7 @@ palette_colour palette text index = if nat_lt index palette.count then bgr_at (p
 abbrev pub index1 : List ℕ → ℕ → ℕ
 index1 row x = slice_index row (x / 8) / 2 ^ (7 - x % 8) % 2
 
+-- a half of a byte
 abbrev pub index4 : List ℕ → ℕ → ℕ
 index4 row x = slice_index row (x / 2) / 16 ^ (1 - x % 2) % 16
 
@@ -52,6 +53,7 @@ rgb555 value = scaled 31 (value / 2 ^ 10 % 32) ∷ scaled 31 (value / 2 ^ 5 % 32
 abbrev pub channel : ℕ → ℕ → ℕ → ℕ
 channel mask absent value = if mask == 0 then absent else scaled (moved_down mask mask) (moved_down mask (bit_and value mask))
 
+-- red, green, blue and alpha by their masks
 abbrev pub masked_colour : Masks → ℕ → List ℕ
 masked_colour masks value = channel masks.red 0 value ∷ channel masks.green 0 value ∷ channel masks.blue 0 value ∷ channel masks.alpha 255 value ∷ []
 
@@ -59,6 +61,7 @@ masked_colour masks value = channel masks.red 0 value ∷ channel masks.green 0 
 abbrev pub IsPaletteInside : Palette → List ℕ → Type 0
 IsPaletteInside palette text = palette.start + 4 * palette.count ≤ length text
 
+-- a format's palette does, if it has one
 abbrev pub HasPalette : Format → List ℕ → Type 0
 HasPalette (Indexed1 palette) text = IsPaletteInside palette text
 HasPalette (Indexed4 palette) text = IsPaletteInside palette text

@@ -47,6 +47,7 @@ pub record RowsLeft : Type 0 where
   pub rows : List (List ℕ)
   pub fault : Option BmpFault
 
+-- a row above those that are left
 abbrev pub with_row : List ℕ → RowsLeft → RowsLeft
 with_row row left = record left { rows = row ∷ left.rows }
 

@@ -1,4 +1,4 @@
--- What a header and a raster's rows are sure to be.
+-- What a header and a raster's rows are sure to be. It follows from the rules of the headers, and is this project's own.
 use Rattle.std.specs.Prelude.{◌≡◌, ℕ, ◌<◌, ◌≤◌, ◌⊎◌, length, IsSome, None}
 use Rattle.bmp_read.specs.declared.header.Head.{Head}
 use Rattle.bmp_read.specs.Raster.{RowsLeft}
