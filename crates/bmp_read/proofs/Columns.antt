@@ -1,7 +1,6 @@
 -- Pixels one behind the other.
-use Rattle.std.proofs.Common.{◌≡◌, ℕ, zero, suc, ◌+◌, ◌*◌, ◌≤◌, List, [], ◌∷◌, ◌++◌, length, take, sym, ap, ◌∙◌, arith, add-one, append-nil}
+use Rattle.std.proofs.Common.{◌≡◌, ℕ, zero, suc, ◌+◌, ◌*◌, List, [], ◌∷◌, ◌++◌, take, sym, ap, ◌∙◌, arith, add-one, append-nil}
 use Rattle.std.specs.List.{flat_map, range_with_len}
-use Rattle.std.proofs.lemmas.List.{take_all}
 use Rattle.std.proofs.lemmas.List.Concat.{flat_map-append}
 use Rattle.bmp_read.specs.Raster.{pixels}
 
@@ -19,10 +18,3 @@ pixels-more pixel x =
 pub column_more : (pixel : ℕ → List ℕ) (old new : List ℕ) (x : ℕ) (written : List ℕ) → take (4 * (x + 1)) new ≡ take (4 * x) old ++ written → written ≡ pixel x
     → take (4 * x) old ≡ pixels pixel x → take (4 * (x + 1)) new ≡ pixels pixel (x + 1)
 column_more pixel old new x written e is so_far = e ∙ (λ i. so_far i ++ is i) ∙ sym (pixels-more pixel x)
-
--- all columns
-pub columns_all : (pixel : ℕ → List ℕ) (into : List ℕ) (x width : ℕ) → x ≤ width → width ≤ x → length into ≡ 4 * width
-    → take (4 * x) into ≡ pixels pixel x → into ≡ pixels pixel width
-columns_all pixel into x width le ge whole so_far =
-    let e : x ≡ width = omega arith in
-    sym (take_all (4 * x) into (omega arith)) ∙ so_far ∙ ap (pixels pixel) e

@@ -16,12 +16,12 @@ use Rattle.bmp_read.specs.Header.{info_size_at, size_at, depth_at, masks_at, pal
 use Rattle.bmp_read.specs.Pixel.{IsPaletteInside, HasPalette}
 
 -- a part that is read
-bind_ok : {A B : Type 0} (r : Result A BmpFault) (f : A → Result B BmpFault) (y : B) → (r >>= f) ≡ Ok y → (x : A) × (r ≡ Ok x) × (f x ≡ Ok y)
+pub bind_ok : {A B : Type 0} (r : Result A BmpFault) (f : A → Result B BmpFault) (y : B) → (r >>= f) ≡ Ok y → (x : A) × (r ≡ Ok x) × (f x ≡ Ok y)
 bind_ok (Ok x) f y e = (x, refl, e)
 bind_ok (Err d) f y e = cc
 
 -- a rule that holds
-rule_ok : {A : Type 0} (broken : Bool) (d : BmpFault) (r : Result A BmpFault) (y : A) → cond broken (Err d) r ≡ Ok y → (broken ≡ false) × (r ≡ Ok y)
+pub rule_ok : {A : Type 0} (broken : Bool) (d : BmpFault) (r : Result A BmpFault) (y : A) → cond broken (Err d) r ≡ Ok y → (broken ≡ false) × (r ≡ Ok y)
 rule_ok true d r y e = cc
 rule_ok false d r y e = (refl, e)
 

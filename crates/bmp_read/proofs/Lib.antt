@@ -1,4 +1,5 @@
 pub mod Columns
+pub mod FirstBroken
 pub mod Heads
 pub mod Lowering
 pub mod RowSteps

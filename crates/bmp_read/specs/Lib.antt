@@ -4,4 +4,5 @@ pub mod Header
 pub mod Pixel
 pub mod Raster
 pub mod Full
+pub mod Rules
 pub mod Size

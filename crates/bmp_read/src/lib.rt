@@ -12,10 +12,12 @@ mod masked;
 mod masks;
 mod pixel;
 mod rows;
+mod rules;
 
 pub use fault::BmpFault;
 pub use header::{Head, read_head};
 pub use rows::Rows;
+pub use rules::fault_is_the_first_broken_rule;
 
 #[cfg(test)]
 mod tests;
