@@ -1,12 +1,12 @@
-/// The first rule that a text breaks, in the order in which the rules are tried: the file header, the
-/// info header, the masks or the palette, and then the raster.
+/// The first rule that a text breaks, in the order in which the rules are tried: the file header,
+/// the info header, the masks or the palette, and then the raster.
 #[derive(Clone, Copy, Debug, PartialEq, Eq)]
 pub enum BmpFault {
     /// The text does not begin with `BM`.
     BadMagic,
 
-    /// The info header has none of the lengths 40, 108 and 124, which are those of BITMAPINFOHEADER,
-    /// BITMAPV4HEADER and BITMAPV5HEADER, or there is not exactly one plane.
+    /// The info header has none of the lengths 40, 108 and 124, which are those of
+    /// BITMAPINFOHEADER, BITMAPV4HEADER and BITMAPV5HEADER, or there is not exactly one plane.
     BadHeader,
 
     /// The width is not above 0, or the height is 0 or -2,147,483,648.

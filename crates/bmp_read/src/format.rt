@@ -16,8 +16,8 @@ pub(crate) struct Masks {
     pub(crate) alpha: u32,
 }
 
-// What a pixel is: an index of 1, 4 or 8 bits, a colour of 16, 24 or 32 bits, or one of 16 or 32 bits
-// by masks.
+// What a pixel is: an index of 1, 4 or 8 bits, a colour of 16, 24 or 32 bits, or one of 16 or 32
+// bits by masks.
 #[derive(Clone, Copy, Debug, PartialEq, Eq)]
 pub(crate) enum Format {
     Indexed1(Palette),

@@ -15,7 +15,8 @@ pub(crate) enum RowOrder {
     BottomFirst,
 }
 
-/// A picture's size in pixels, and how and where its pixels stand in the text that it was read from.
+/// A picture's size in pixels, and how and where its pixels stand in the text that it was read
+/// from.
 #[derive(Clone, Copy, Debug, PartialEq, Eq)]
 pub struct Head {
     /// From 1 to 2,147,483,647.
@@ -218,12 +219,13 @@ fn format(text: &[u8], info_size: u32, compression: u32, bits: u16) -> Result<Fo
     Ok(direct(bits))
 }
 
-/// Reads the headers that a text begins with, and the masks or the place of the palette behind them. Whether
-/// the text has the raster is for `Rows` to see.
+/// Reads the headers that a text begins with, and the masks or the place of the palette behind
+/// them. Whether the text has the raster is for `Rows` to see.
 ///
-/// The headers are those of Windows bitmaps: BITMAPFILEHEADER, and BITMAPINFOHEADER, BITMAPV4HEADER or
-/// BITMAPV5HEADER. Both sides are from 1 to 2,147,483,647. All fields but the raster's place, the two sides,
-/// the planes, the bits of a pixel, the compression, the count of colours and the masks are ignored.
+/// The headers are those of Windows bitmaps: BITMAPFILEHEADER, and BITMAPINFOHEADER, BITMAPV4HEADER
+/// or BITMAPV5HEADER. Both sides are from 1 to 2,147,483,647. All fields but the raster's place,
+/// the two sides, the planes, the bits of a pixel, the compression, the count of colours and the
+/// masks are ignored.
 #[tactic(auto, unfolding(crate::specs::Header::head_of))]
 pub fn read_head(bytes: &[u8]) -> Result<Head, BmpFault>
     ensures head { result ≡ head_of bytes.now }

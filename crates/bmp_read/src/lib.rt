@@ -1,5 +1,5 @@
-//! Reads the rows of Windows bitmaps: uncompressed, with a palette, with colours of 16, 24 or 32 bits, or
-//! with colours by masks.
+//! Reads the rows of Windows bitmaps: uncompressed, with a palette, with colours of 16, 24 or 32
+//! bits, or with colours by masks.
 #![tactic(auto)]
 
 mod bytes;

@@ -14,8 +14,8 @@ use crate::indexed::{write_indexed1, write_indexed4, write_indexed8};
 use crate::masked::{write_masked16, write_masked32};
 use std::marker::Model;
 
-/// The rows of a picture that are still to be read, from the top, or the fault that comes in the place
-/// of all where the raster does not lie inside the text.
+/// The rows of a picture that are still to be read, from the top, or the fault that comes in the
+/// place of all where the raster does not lie inside the text.
 #[derive(Drop)]
 pub struct Rows<'a> {
     text: &'a [u8],
@@ -118,8 +118,8 @@ fn write_row(text: &[u8], head: Head, row: &[u8], into: &mut [u8])
 }
 
 impl<'a> Rows<'a> {
-    /// All rows of the picture whose header was read from these bytes. Bytes behind the raster are never
-    /// looked at.
+    /// All rows of the picture whose header was read from these bytes. Bytes behind the raster are
+    /// never looked at.
     pub fn new(bytes: &'a [u8], head: Head) -> Rows<'a>
         requires { head_of bytes.now ≡ Ok head }
         ensures rows { result ≡ rows_under head bytes.now }
@@ -133,12 +133,13 @@ impl<'a> Rows<'a> {
         }
     }
 
-    /// Writes the next row, four bytes a pixel: red, green, blue and alpha. A sample v of the maximum m is
-    /// written as `(255 * v + m / 2) / m`. Alpha is 255 where no mask says otherwise, and an index that the
-    /// palette does not have is opaque black. After the last row it answers false.
+    /// Writes the next row, four bytes a pixel: red, green, blue and alpha. A sample v of the
+    /// maximum m is written as `(255 * v + m / 2) / m`. Alpha is 255 where no mask says otherwise,
+    /// and an index that the palette does not have is opaque black. After the last row it answers
+    /// false.
     ///
-    /// `Truncated` comes in the place of the first row, and again at each later call, where the raster does
-    /// not lie inside the text.
+    /// `Truncated` comes in the place of the first row, and again at each later call, where the
+    /// raster does not lie inside the text.
     pub fn next_row(&mut self, into: &mut [u8]) -> Result<bool, BmpFault>
         requires { length into.old ≡ 4 * self.old.width }
         ensures step { RowStep self.old result into.new self.new }

@@ -3,9 +3,9 @@ ghost use Rattle.std.specs.Prelude.{◌≡◌, ℕ, List};
 ghost use Rattle.bmp_read.specs.Full.{full_picture};
 ghost use Rattle.bmp_read.specs.Rules.{rules, first_broken, fault_of};
 
-/// A law that does no work: the fault of a text is that of the first of the rules that it breaks, and a
-/// text that breaks none has its picture. `read_head` and `Rows` are held to the same definition, part by
-/// part.
+/// A law that does no work: the fault of a text is that of the first of the rules that it breaks,
+/// and a text that breaks none has its picture. `read_head` and `Rows` are held to the same
+/// definition, part by part.
 pub fn fault_is_the_first_broken_rule()
     ensures { (text : List ℕ) → fault_of (full_picture text) ≡ first_broken (rules text) }
 {}

@@ -7,7 +7,8 @@ ghost use Rattle.bmp_read.specs.Full.{full_picture};
 use super::*;
 use BmpFault::{BadDepth, BadHeader, BadMagic, BadMasks, BadSize, Compressed, Truncated};
 
-// 3 by -1 pixels of 32 bits by masks, with an info header of 108 bytes: black, of the alphas 97, 98 and 99.
+// 3 by -1 pixels of 32 bits by masks, with an info header of 108 bytes: black, of the alphas 97, 98
+// and 99.
 const ALPHA: [u8; 134] = *b"BM\x86\x00\x00\x00\x00\x00\x00\x00\x7a\x00\x00\x00\
     \x6c\x00\x00\x00\x03\x00\x00\x00\xff\xff\xff\xff\x01\x00\x20\x00\x03\x00\x00\x00\
     \x0c\x00\x00\x00\x00\x00\x00\x00\x00\x00\x00\x00\x00\x00\x00\x00\x00\x00\x00\x00\
@@ -70,8 +71,9 @@ const COMPRESSED: [u8; 62] = *b"BM\x3e\x00\x00\x00\x00\x00\x00\x00\x3e\x00\x00\x
     \x01\x02\x03\x00\x0a\x0b\x0c\x00\
     ";
 
-// The definition itself on worked texts, computed where the tests are proved. Behind `BM` they are fields of four bytes: the text's
-// length, 0, the raster's place, the info header's length, the width, the height, planes and bits, the compression, and so on.
+// The definition itself on worked texts, computed where the tests are proved. Behind `BM` they are
+// fields of four bytes: the text's length, 0, the raster's place, the info header's length, the
+// width, the height, planes and bits, the compression, and so on.
 fn worked_texts()
     ensures bottom_first { full_picture (codes "BM" ++ flat_map (to_le_bytes w32)
         (62 ∷ 0 ∷ 54 ∷ 40 ∷ 1 ∷ 2 ∷ 0x0018_0001 ∷ 0 ∷ 0 ∷ 0 ∷ 0 ∷ 0 ∷ 0 ∷ 0x0003_0201 ∷ 0x0006_0504 ∷ []))
