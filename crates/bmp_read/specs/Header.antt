@@ -1,5 +1,5 @@
 -- The headers of a Windows bitmap: the file header, BITMAPFILEHEADER, of 14 bytes, and behind it an info header, which is
--- BITMAPINFOHEADER, BITMAPV4HEADER or BITMAPV5HEADER. A place is counted in bytes from the text's begin. Which rules there are,
+-- BITMAPINFOHEADER, BITMAPV4HEADER or BITMAPV5HEADER. A place is counted in bytes from the text's beginning. Which rules there are,
 -- their order, that masks are runs of 1 bits and that all other fields are ignored, is this project's own.
 use Rattle.std.specs.Prelude.{ℕ, ◌+◌, ◌-◌, ◌*◌, ◌/◌, ◌^◌, Bool, false, not, ◌&&◌, ◌||◌, ◌==◌, nat_le, nat_lt, List, [], ◌∷◌, length, if◌then◌else◌, Ok, Err, Result}
 use Rattle.std.specs.Int.{w32, trailing_zeros, is_power_of_two}

@@ -1,4 +1,4 @@
--- The raster, as the BMP headers of Windows have it: each row begins at a multiple of four bytes behind the raster's begin, and the
+-- The raster, as the BMP headers of Windows have it: each row begins at a multiple of four bytes behind the raster's beginning, and the
 -- rows come from the bottom, or from the top where the height is below 0. That a raster which does not lie inside the text has
 -- no rows is this project's own.
 use Rattle.std.specs.Prelude.{◌≡◌, ℕ, zero, suc, ◌+◌, ◌-◌, ◌*◌, ◌/◌, nat_le, List, [], ◌∷◌, length, take, drop, if◌then◌else◌, Ok, Err, Some, None, Result, Bool, true, false, ⊤}
@@ -19,7 +19,7 @@ row_length head = (head.width * bits_of head.format + 31) / 32 * 4
 abbrev pub has_raster : Head → List ℕ → Bool
 has_raster head text = nat_le (head.raster_start + row_length head * head.height) (length text)
 
--- the bytes of a stored row, counted from the raster's begin
+-- the bytes of a stored row, counted from the raster's beginning
 abbrev pub stored_row : Head → List ℕ → ℕ → List ℕ
 stored_row head text index = take (row_length head) (drop (row_length head * index) (drop head.raster_start text))
 

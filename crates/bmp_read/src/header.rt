@@ -27,7 +27,7 @@ pub struct Head {
 
     pub(crate) order: RowOrder,
     pub(crate) format: Format,
-    // In bytes from the text's begin.
+    // In bytes from the text's beginning.
     pub(crate) raster_start: u32,
 }
 
