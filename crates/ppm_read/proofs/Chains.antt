@@ -1,5 +1,5 @@
 -- Reading part after part.
-use Rattle.std.proofs.Common.{◌≡◌, Bool, true, false, cond, Result, Ok, Err, refl, ap}
+use Rattle.std.proofs.Common.{◌≡◌, ◌⊎◌, inl, inr, Bool, true, false, cond, Result, Ok, Err, refl, ap}
 use Rattle.ppm_read.specs.declared.fault.PpmFault.{PpmFault}
 use Rattle.ppm_read.specs.Reading.{◌>>=◌}
 
@@ -29,3 +29,11 @@ bind_same (Err d) f g same = refl
 
 pub inside : {A : Type 0} (x y : A) → ◌≡◌ {A = Result A PpmFault} (Ok x) (Ok y) → x ≡ y
 inside x y e = cc
+
+pub err_inside : {A : Type 0} (d f : PpmFault) → ◌≡◌ {A = Result A PpmFault} (Err d) (Err f) → d ≡ f
+err_inside d f e = cc
+
+-- which part failed
+pub bind_err : {A B : Type 0} (r : Result A PpmFault) (f : A → Result B PpmFault) (d : PpmFault) → (r >>= f) ≡ Err d → (r ≡ Err d) ⊎ ((x : A) × (r ≡ Ok x) × (f x ≡ Err d))
+bind_err (Ok x) f d e = inr (x, refl, e)
+bind_err {A = A} {B = B} (Err c) f d e = inl (ap Err (err_inside {A = B} c d e))

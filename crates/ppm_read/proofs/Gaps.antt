@@ -16,43 +16,43 @@ use Rattle.ppm_read.proofs.Numbers.{in_range}
 use Rattle.ppm_read.specs.Spelling.{GapPart, White, Comment, gap_bytes, is_gap_part, IsNumber, IsPart}
 
 -- gap parts at the front of a text, where more follows them
-record GapFront (text : List ℕ) : Type 0 where
-  parts : List GapPart
-  fit : list_all is_gap_part parts ≡ true
-  spelled : text ≡ flat_map gap_bytes parts ++ behind_gap text
+pub record GapFront (text : List ℕ) : Type 0 where
+  pub parts : List GapPart
+  pub fit : list_all is_gap_part parts ≡ true
+  pub spelled : text ≡ flat_map gap_bytes parts ++ behind_gap text
 
-record CommentFront (text : List ℕ) : Type 0 where
-  bytes : List ℕ
-  end : ℕ
-  parts : List GapPart
-  inside : list_all (λ c. not (is_line_end c)) bytes ≡ true
-  stops : is_line_end end ≡ true
-  fit : list_all is_gap_part parts ≡ true
-  spelled : text ≡ bytes ++ end ∷ (flat_map gap_bytes parts ++ behind_comment text)
+pub record CommentFront (text : List ℕ) : Type 0 where
+  pub bytes : List ℕ
+  pub end : ℕ
+  pub parts : List GapPart
+  pub inside : list_all (λ c. not (is_line_end c)) bytes ≡ true
+  pub stops : is_line_end end ≡ true
+  pub fit : list_all is_gap_part parts ≡ true
+  pub spelled : text ≡ bytes ++ end ∷ (flat_map gap_bytes parts ++ behind_comment text)
 
-abbrev Fronts : List ℕ → Type 0
+abbrev pub Fronts : List ℕ → Type 0
 Fronts text = (0 < length (behind_gap text) → GapFront text) × (0 < length (behind_comment text) → CommentFront text)
 
 pub both_true : (a b : Bool) → a ≡ true → b ≡ true → (a && b) ≡ true
 both_true a b e f = ap (λ v. v && b) e ∙ f
 
-gap_white : (c : ℕ) (rest : List ℕ) → is_white c ≡ true → behind_gap (c ∷ rest) ≡ behind_gap rest
+pub gap_white : (c : ℕ) (rest : List ℕ) → is_white c ≡ true → behind_gap (c ∷ rest) ≡ behind_gap rest
 gap_white c rest e = ap (λ v. cond v (behind_gap rest) (cond (begins_comment c) (behind_comment rest) (c ∷ rest))) e
 
-gap_comment : (c : ℕ) (rest : List ℕ) → is_white c ≡ false → begins_comment c ≡ true → behind_gap (c ∷ rest) ≡ behind_comment rest
+pub gap_comment : (c : ℕ) (rest : List ℕ) → is_white c ≡ false → begins_comment c ≡ true → behind_gap (c ∷ rest) ≡ behind_comment rest
 gap_comment c rest e f = ap (λ v. cond v (behind_gap rest) (cond (begins_comment c) (behind_comment rest) (c ∷ rest))) e ∙ ap (λ v. cond v (behind_comment rest) (c ∷ rest)) f
 
 pub gap_none : (c : ℕ) (rest : List ℕ) → is_white c ≡ false → begins_comment c ≡ false → behind_gap (c ∷ rest) ≡ c ∷ rest
 gap_none c rest e f = ap (λ v. cond v (behind_gap rest) (cond (begins_comment c) (behind_comment rest) (c ∷ rest))) e ∙ ap (λ v. cond v (behind_comment rest) (c ∷ rest)) f
 
-comment_stops : (c : ℕ) (rest : List ℕ) → is_line_end c ≡ true → behind_comment (c ∷ rest) ≡ behind_gap rest
+pub comment_stops : (c : ℕ) (rest : List ℕ) → is_line_end c ≡ true → behind_comment (c ∷ rest) ≡ behind_gap rest
 comment_stops c rest e = ap (λ v. cond v (behind_gap rest) (behind_comment rest)) e
 
-comment_goes : (c : ℕ) (rest : List ℕ) → is_line_end c ≡ false → behind_comment (c ∷ rest) ≡ behind_comment rest
+pub comment_goes : (c : ℕ) (rest : List ℕ) → is_line_end c ≡ false → behind_comment (c ∷ rest) ≡ behind_comment rest
 comment_goes c rest e = ap (λ v. cond v (behind_gap rest) (behind_comment rest)) e
 
 -- no white byte is a comment's first
-hash : (c : ℕ) → begins_comment c ≡ true → c ≡ 35
+pub hash : (c : ℕ) → begins_comment c ≡ true → c ≡ 35
 hash c e = Rattle.std.proofs.Common.eqb-true c 35 e
 
 front_gap : (c : ℕ) (rest : List ℕ) (w h : Bool) → is_white c ≡ w → begins_comment c ≡ h → Fronts rest → 0 < length (behind_gap (c ∷ rest)) → GapFront (c ∷ rest)
@@ -100,7 +100,7 @@ front_comment c rest false e fronts lt =
       spelled = ap (λ l. c ∷ l) (more.spelled ∙ ap (λ l. more.bytes ++ more.end ∷ (flat_map gap_bytes more.parts ++ l)) (sym is));
     }
 
-fronts_of : (text : List ℕ) → Fronts text
+pub fronts_of : (text : List ℕ) → Fronts text
 fronts_of [] = (λ lt. absurd (omega arith), λ lt. absurd (omega arith))
 fronts_of (c ∷ rest) = (front_gap c rest (is_white c) (begins_comment c) refl refl (fronts_of rest), front_comment c rest (is_line_end c) refl (fronts_of rest))
 
@@ -109,11 +109,11 @@ pub and_both : (a b : Bool) → (a && b) ≡ true → (a ≡ true) × (b ≡ tru
 and_both true b e = (refl, e)
 and_both false b e = cc
 
-not_true : (b : Bool) → not b ≡ true → b ≡ false
+pub not_true : (b : Bool) → not b ≡ true → b ≡ false
 not_true true e = cc
 not_true false e = refl
 
-comment_behind : (bytes : List ℕ) (end : ℕ) (tail : List ℕ) → list_all (λ c. not (is_line_end c)) bytes ≡ true → is_line_end end ≡ true → behind_comment (bytes ++ end ∷ tail) ≡ behind_gap tail
+pub comment_behind : (bytes : List ℕ) (end : ℕ) (tail : List ℕ) → list_all (λ c. not (is_line_end c)) bytes ≡ true → is_line_end end ≡ true → behind_comment (bytes ++ end ∷ tail) ≡ behind_gap tail
 comment_behind [] end tail e f = comment_stops end tail f
 comment_behind (c ∷ bytes) end tail e f =
     let both = and_both (not (is_line_end c)) _ e in
@@ -177,7 +177,7 @@ pub cond_err : {A : Type 0} (b : Bool) (d : PpmFault) (r : Result A PpmFault) (y
 cond_err true d r y e = cc
 cond_err false d r y e = (refl, e)
 
-positive : (n : ℕ) → eqb n 0 ≡ false → 0 < n
+pub positive : (n : ℕ) → eqb n 0 ≡ false → 0 < n
 positive n e = grind (arith, nat_tests)
 
 pub number_front : (may_end : Bool) (text : List ℕ) (n : ℕ) (rest : List ℕ) → number_at may_end text ≡ Ok (n, rest) → NumberFront may_end text n rest
@@ -198,7 +198,7 @@ number_front may_end text n rest e =
       whole = ap (is_cut may_end) (sym back) ∙ whole.0;
     }
 
-not_zero : (n : ℕ) → 0 < n → eqb n 0 ≡ false
+pub not_zero : (n : ℕ) → 0 < n → eqb n 0 ≡ false
 not_zero n lt = grind (arith, nat_tests)
 
 pub number_spelled : (may_end : Bool) (n : ℕ) (digits rest : List ℕ) → IsNumber n digits → begins_with is_digit rest ≡ false → is_cut may_end rest ≡ false → number_at may_end (digits ++ rest) ≡ Ok (n, rest)
@@ -232,11 +232,11 @@ pub digit_first : (digits rest : List ℕ) → 0 < length digits → list_all is
 digit_first [] rest lt e = absurd (omega arith)
 digit_first (d ∷ ds) rest lt e = no_gap d (and_both (is_digit d) _ e).0
 
-some_parts : (parts : List GapPart) (text back : List ℕ) → text ≡ flat_map gap_bytes parts ++ back → begins_with begins_gap text ≡ true → begins_with begins_gap back ≡ false → 0 < length parts
+pub some_parts : (parts : List GapPart) (text back : List ℕ) → text ≡ flat_map gap_bytes parts ++ back → begins_with begins_gap text ≡ true → begins_with begins_gap back ≡ false → 0 < length parts
 some_parts [] text back e first none = let same : begins_with begins_gap back ≡ true = ap (begins_with begins_gap) (sym e) ∙ first in cc
 some_parts (p ∷ parts) text back e first none = omega arith
 
-gap_first : (parts : List GapPart) (rest : List ℕ) → 0 < length parts → list_all is_gap_part parts ≡ true → begins_with begins_gap (flat_map gap_bytes parts ++ rest) ≡ true
+pub gap_first : (parts : List GapPart) (rest : List ℕ) → 0 < length parts → list_all is_gap_part parts ≡ true → begins_with begins_gap (flat_map gap_bytes parts ++ rest) ≡ true
 gap_first [] rest lt e = absurd (omega arith)
 gap_first (White c ∷ parts) rest lt e = ap (λ v. v || begins_comment c) (and_both (is_white c) _ e).0
 gap_first (Comment bytes end ∷ parts) rest lt e = refl

@@ -18,13 +18,23 @@ use Rattle.ppm_read.proofs.Chains.{bind_ok, cond_ok, inside}
 use Rattle.ppm_read.proofs.Numbers.{in_range}
 use Rattle.ppm_read.proofs.Gaps.{begins_gap, part_front, part_spelled, part_first, and_both, both_true}
 
--- the magic number
-record MagicFront (text : List ℕ) (x : Channels × Format × List ℕ) : Type 0 where
-  digit : ℕ
-  kind : kind_of digit ≡ Ok (x.0, x.1)
-  spelled : text ≡ 80 ∷ digit ∷ x.2
+-- more text, and no digit first
+pub record Starts (rest : List ℕ) : Type 0 where
+  pub stops : begins_with is_digit rest ≡ false
+  pub whole : is_cut false rest ≡ false
 
-magic_front : (text : List ℕ) (x : Channels × Format × List ℕ) → magic_at text ≡ Ok x → MagicFront text x
+-- what may stand behind the header
+abbrev pub BeginsRaster : Format → List ℕ → Type 0
+BeginsRaster Plain rest = Starts rest
+BeginsRaster Raw rest = Unit {0}
+
+-- the magic number
+pub record MagicFront (text : List ℕ) (x : Channels × Format × List ℕ) : Type 0 where
+  pub digit : ℕ
+  pub kind : kind_of digit ≡ Ok (x.0, x.1)
+  pub spelled : text ≡ 80 ∷ digit ∷ x.2
+
+pub magic_front : (text : List ℕ) (x : Channels × Format × List ℕ) → magic_at text ≡ Ok x → MagicFront text x
 magic_front [] x e = cc
 magic_front (p ∷ []) x e = cc
 magic_front (p ∷ digit ∷ rest) x e =
@@ -74,6 +84,7 @@ record MaximumFront (text : List ℕ) (x : ℕ × List ℕ) : Type 0 where
   low : 1 ≤ x.0
   most : x.0 ≤ 65535
   spelled : text ≡ maximum ++ x.1
+  starts : Starts x.1
 
 maximum_front : (text : List ℕ) (x : ℕ × List ℕ) → maximum_at text ≡ Ok x → MaximumFront text x
 unfolding maximum_at
@@ -89,6 +100,7 @@ maximum_front text x e =
       low = ltb-true 0 first.0.0 both.0;
       most = leb-true first.0.0 65535 both.1;
       spelled = m.spelled;
+      starts = record { stops = m.stops; whole = m.whole };
     }
 
 -- the end
@@ -96,13 +108,14 @@ record EndFront (format : Format) (text rest : List ℕ) : Type 0 where
   end : List ℕ
   is_end : IsEnd format end
   spelled : text ≡ end ++ rest
+  begins : Starts text → BeginsRaster format rest
 
 end_front : (format : Format) (text rest : List ℕ) → raster_at format text ≡ Ok rest → EndFront format text rest
-end_front Plain text rest e = record { end = []; is_end = refl; spelled = inside text rest e }
+end_front Plain text rest e = record { end = []; is_end = refl; spelled = inside text rest e; begins = λ starts. subst Starts (inside text rest e) starts }
 end_front Raw [] rest e = cc
 end_front Raw (c ∷ text) rest e =
     let white = cond_ok (is_white c) (Ok text) _ rest e in
-    record { end = c ∷ []; is_end = (c, white.0, refl); spelled = ap (λ l. c ∷ l) (inside text rest white.1) }
+    record { end = c ∷ []; is_end = (c, white.0, refl); spelled = ap (λ l. c ∷ l) (inside text rest white.1); begins = λ starts. tt }
 
 -- a header that is read
 pub record HeaderFront (text : List ℕ) (head : Head) : Type 0 where
@@ -111,6 +124,7 @@ pub record HeaderFront (text : List ℕ) (head : Head) : Type 0 where
   pub is_header : IsHeader head header
   pub spelled : text ≡ header ++ rest
   pub start : head.raster_start ≡ length text - length rest
+  pub begins : BeginsRaster head.format rest
 
 pub header_front : (text : List ℕ) (head : Head) → head_of text ≡ Ok head → HeaderFront text head
 unfolding head_of
@@ -149,16 +163,13 @@ header_front text head e =
       };
       spelled = whole;
       start = refl;
+      begins = e.begins x.starts;
     }
 
 -- a gap is no digit
 gap_no_digit : (c : ℕ) (b : Bool) → is_digit c ≡ b → begins_gap c ≡ true → b ≡ false
 gap_no_digit c true e f = let range = in_range c e in grind (arith, nat_tests)
 gap_no_digit c false e f = refl
-
-pub record Starts (rest : List ℕ) : Type 0 where
-  pub stops : begins_with is_digit rest ≡ false
-  pub whole : is_cut false rest ≡ false
 
 pub starts_gap : (rest : List ℕ) → begins_with begins_gap rest ≡ true → Starts rest
 starts_gap [] e = cc
@@ -168,14 +179,9 @@ pub starts_white : (rest : List ℕ) → begins_with is_white rest ≡ true → 
 starts_white [] e = cc
 starts_white (c ∷ rest) e = ap (λ b. b || begins_comment c) e
 
--- what may stand behind the header
-abbrev pub BeginsRaster : Format → List ℕ → Type 0
-BeginsRaster Plain rest = begins_with is_white rest ≡ true
-BeginsRaster Raw rest = Unit {0}
-
-starts_end : (format : Format) (end rest : List ℕ) → IsEnd format end → BeginsRaster format rest → begins_with begins_gap (end ++ rest) ≡ true
-starts_end Plain end rest is begins = ap (λ l. begins_with begins_gap (l ++ rest)) is ∙ starts_white rest begins
-starts_end Raw end rest (c, white, is) begins = ap (λ l. begins_with begins_gap (l ++ rest)) is ∙ ap (λ b. b || begins_comment c) white
+starts_end : (format : Format) (end rest : List ℕ) → IsEnd format end → BeginsRaster format rest → Starts (end ++ rest)
+starts_end Plain end rest is begins = subst (λ l. Starts (l ++ rest)) (sym is) begins
+starts_end Raw end rest (c, white, is) begins = starts_gap (end ++ rest) (ap (λ l. begins_with begins_gap (l ++ rest)) is ∙ ap (λ b. b || begins_comment c) white)
 
 raster_spelled : (format : Format) (end rest : List ℕ) → IsEnd format end → raster_at format (end ++ rest) ≡ Ok rest
 raster_spelled Plain end rest is = ap (λ l. Ok (l ++ rest)) is
@@ -191,10 +197,9 @@ size_spelled w h width height rest is_width is_height wide high begins =
     ∙ ap (λ r. r >>= (λ height. test w height.0 height.1)) (part_spelled h height rest is_height behind_height.stops behind_height.whole)
     ∙ ap (λ b. cond b (Ok (w, h, rest)) (Err BadSize)) (both_true (ltb 0 w) (ltb 0 h) (lt-ltb 0 w wide) (lt-ltb 0 h high))
 
-maximum_spelled : (m : ℕ) (maximum rest : List ℕ) → IsPart m maximum → 1 ≤ m → m ≤ 65535 → begins_with begins_gap rest ≡ true → maximum_at (maximum ++ rest) ≡ Ok (m, rest)
+maximum_spelled : (m : ℕ) (maximum rest : List ℕ) → IsPart m maximum → 1 ≤ m → m ≤ 65535 → Starts rest → maximum_at (maximum ++ rest) ≡ Ok (m, rest)
 unfolding maximum_at
-maximum_spelled m maximum rest is low most begins =
-    let behind = starts_gap rest begins in
+maximum_spelled m maximum rest is low most behind =
     ap (λ r. r >>= (λ maximum. cond (ltb 0 maximum.0 && leb maximum.0 65535) (Ok maximum) (Err BadMaximum))) (part_spelled m maximum rest is behind.stops behind.whole)
     ∙ ap (λ b. cond b (Ok (m, rest)) (Err BadMaximum)) (both_true (ltb 0 m) (leb m 65535) (lt-ltb 0 m low) (le-leb m 65535 most))
 

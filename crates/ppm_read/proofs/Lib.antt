@@ -1,9 +1,13 @@
 pub mod Chains
 pub mod Gaps
+pub mod HeaderFaults
 pub mod Headers
 pub mod Numbers
+pub mod Outcomes
+pub mod Parts
 pub mod Pixels
 pub mod PlainRows
+pub mod RasterFaults
 pub mod Rasters
 pub mod RawRows
 pub mod RawSamples

@@ -43,7 +43,7 @@ cons_after v front (Ok x) = refl
 cons_after v front (Err d) = refl
 
 -- samples one behind the other
-samples_at-add : (f : Format) (m : ℕ) (last : Bool) (a b : ℕ) (text : List ℕ)
+pub samples_at-add : (f : Format) (m : ℕ) (last : Bool) (a b : ℕ) (text : List ℕ)
     → samples_at f m last (a + b) text ≡ (samples_at f m (last && eqb b 0) a text >>= (λ front. after front.0 (samples_at f m last b front.1)))
 samples_at-add f m last zero b text = let e : zero + b ≡ b = omega arith in ap (λ n. samples_at f m last n text) e ∙ sym (after-nil (samples_at f m last b text))
 samples_at-add f m last (suc a) b text =

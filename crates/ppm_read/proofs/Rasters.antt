@@ -25,13 +25,13 @@ Ends Plain last rest = (begins_with is_digit rest ≡ false) × (is_cut last res
 Ends Raw last rest = Unit {0}
 
 -- a sample that is read
-record SampleFront (f : Format) (m : ℕ) (last : Bool) (text : List ℕ) (x : ℕ × List ℕ) : Type 0 where
-  one : List ℕ
-  is : IsSample f m x.0 one
-  ends : Ends f last x.1
-  spelled : text ≡ one ++ x.1
+pub record SampleFront (f : Format) (m : ℕ) (last : Bool) (text : List ℕ) (x : ℕ × List ℕ) : Type 0 where
+  pub one : List ℕ
+  pub is : IsSample f m x.0 one
+  pub ends : Ends f last x.1
+  pub spelled : text ≡ one ++ x.1
 
-white_some : (p : ℕ → Bool) (text : List ℕ) → begins_with p text ≡ true → 0 < length (take_while p text)
+pub white_some : (p : ℕ → Bool) (text : List ℕ) → begins_with p text ≡ true → 0 < length (take_while p text)
 white_some p [] e = cc
 white_some p (c ∷ rest) e = let is : take_while p (c ∷ rest) ≡ c ∷ take_while p rest = take_while-cons p c rest ∙ ap (λ b. cond b (c ∷ take_while p rest) []) e in omega (arith, ap length is)
 
@@ -43,7 +43,7 @@ raw_front false (h ∷ []) x e = cc
 raw_front false (h ∷ l ∷ rest) x e =
     let same = inside (256 * h + l, rest) x e in (h ∷ l ∷ [], (h, l, sym (ap (λ (y : ℕ × List ℕ). y.0) same), refl), ap (λ (y : ℕ × List ℕ). h ∷ l ∷ y.1) same)
 
-spelled_front : (f : Format) (m : ℕ) (last : Bool) (text : List ℕ) (x : ℕ × List ℕ) → spelled_at f m last text ≡ Ok x → SampleFront f m last text x
+pub spelled_front : (f : Format) (m : ℕ) (last : Bool) (text : List ℕ) (x : ℕ × List ℕ) → spelled_at f m last text ≡ Ok x → SampleFront f m last text x
 spelled_front Plain m last text x e =
     let white = cond_ok (begins_with is_white text) (number_at last (behind is_white text)) _ x e in
     let number = number_front last (behind is_white text) x.0 x.1 white.1 in
@@ -62,7 +62,7 @@ spelled_front Plain m last text x e =
     }
 spelled_front Raw m last text x e = let front = raw_front (ltb m 256) text x e in record { one = front.0; is = front.1; ends = tt; spelled = front.2 }
 
-sample_front : (f : Format) (m : ℕ) (last : Bool) (text : List ℕ) (x : ℕ × List ℕ) → sample_at f m last text ≡ Ok x → SampleFront f m last text x × (x.0 ≤ m)
+pub sample_front : (f : Format) (m : ℕ) (last : Bool) (text : List ℕ) (x : ℕ × List ℕ) → sample_at f m last text ≡ Ok x → SampleFront f m last text x × (x.0 ≤ m)
 sample_front f m last text x e =
     let first = bind_ok (spelled_at f m last text) (at_most m) x e in
     let test = cond_err (ltb m first.0.0) SampleAbove (Ok first.0) x first.2 in
@@ -81,7 +81,10 @@ no_white : (rest : List ℕ) → begins_with begins_gap rest ≡ false → begin
 no_white [] e = refl
 no_white (c ∷ rest) e = or_none (is_white c) (begins_comment c) e
 
-white_first : (white rest : List ℕ) → 0 < length white → list_all is_white white ≡ true → begins_with is_white (white ++ rest) ≡ true
+pub no_digit_white : (digits rest : List ℕ) → 0 < length digits → list_all is_digit digits ≡ true → begins_with is_white (digits ++ rest) ≡ false
+no_digit_white digits rest some fit = no_white (digits ++ rest) (digit_first digits rest some fit)
+
+pub white_first : (white rest : List ℕ) → 0 < length white → list_all is_white white ≡ true → begins_with is_white (white ++ rest) ≡ true
 white_first [] rest lt e = absurd (omega arith)
 white_first (c ∷ white) rest lt e = (and_both (is_white c) (list_all is_white white) e).0
 
@@ -89,7 +92,7 @@ raw_spelled : (b : Bool) (v : ℕ) (one rest : List ℕ) → IsRawSample b v one
 raw_spelled true v one rest is = ap (λ l. byte_at (l ++ rest)) is
 raw_spelled false v one rest (h, l, value, is) = ap (λ s. word_at (s ++ rest)) is ∙ ap (λ n. Ok (n, rest)) (sym value)
 
-spelled_spelled : (f : Format) (m : ℕ) (last : Bool) (v : ℕ) (one rest : List ℕ) → IsSample f m v one → Ends f last rest → spelled_at f m last (one ++ rest) ≡ Ok (v, rest)
+pub spelled_spelled : (f : Format) (m : ℕ) (last : Bool) (v : ℕ) (one rest : List ℕ) → IsSample f m v one → Ends f last rest → spelled_at f m last (one ++ rest) ≡ Ok (v, rest)
 spelled_spelled Plain m last v one rest is ends =
     let back : List ℕ = is.digits ++ rest in
     let text_is : one ++ rest ≡ is.white ++ back = ap (λ l. l ++ rest) is.spelled ∙ append_assoc is.white is.digits rest in
@@ -100,7 +103,7 @@ spelled_spelled Plain m last v one rest is ends =
     ∙ number_spelled last v is.digits rest is.is_number ends.0 ends.1
 spelled_spelled Raw m last v one rest is ends = raw_spelled (ltb m 256) v one rest is
 
-sample_spelled : (f : Format) (m : ℕ) (last : Bool) (v : ℕ) (one rest : List ℕ) → IsSample f m v one → v ≤ m → Ends f last rest → sample_at f m last (one ++ rest) ≡ Ok (v, rest)
+pub sample_spelled : (f : Format) (m : ℕ) (last : Bool) (v : ℕ) (one rest : List ℕ) → IsSample f m v one → v ≤ m → Ends f last rest → sample_at f m last (one ++ rest) ≡ Ok (v, rest)
 sample_spelled f m last v one rest is within ends =
     ap (λ r. r >>= at_most m) (spelled_spelled f m last v one rest is ends) ∙ ap (λ b. cond b (Err SampleAbove) (Ok (v, rest))) (le-ltb m v within)
 
@@ -160,7 +163,7 @@ samples_first m [] bytes rest lt are = absurd (omega arith)
 samples_first m (v ∷ vs) bytes rest lt (one, others, is, within, are, spelled) =
     ap (begins_with is_white) (ap (λ l. l ++ rest) spelled ∙ append_assoc one others rest) ∙ plain_first m v one (others ++ rest) is
 
-ends_next : (f : Format) (m : ℕ) (last : Bool) (s bytes rest : List ℕ) → AreSamples f m s bytes → Ends f last rest → Ends f (last && eqb (length s) 0) (bytes ++ rest)
+pub ends_next : (f : Format) (m : ℕ) (last : Bool) (s bytes rest : List ℕ) → AreSamples f m s bytes → Ends f last rest → Ends f (last && eqb (length s) 0) (bytes ++ rest)
 ends_next f m last [] bytes rest are ends = subst (λ b. Ends f b (bytes ++ rest)) (sym (and_true last)) (subst (λ l. Ends f last (l ++ rest)) (sym are) ends)
 ends_next Plain m last (v ∷ vs) bytes rest are ends = ends_white (last && eqb (suc (length vs)) 0) (bytes ++ rest) (samples_first m (v ∷ vs) bytes rest (omega arith) are)
 ends_next Raw m last (v ∷ vs) bytes rest are ends = tt

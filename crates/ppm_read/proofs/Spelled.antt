@@ -16,7 +16,7 @@ use Rattle.ppm_read.specs.Raster.{channel_count, rows_of}
 use Rattle.ppm_read.specs.Full.{FullPicture, unless_fault, rows_under, full_picture_under, full_picture}
 use Rattle.ppm_read.specs.Spelling.{AreSamples, MayFollow, IsSpelled}
 use Rattle.ppm_read.proofs.Chains.{bind_ok, inside}
-use Rattle.ppm_read.proofs.Headers.{header_front, header_spelled, placed, BeginsRaster}
+use Rattle.ppm_read.proofs.Headers.{header_front, header_spelled, placed, BeginsRaster, starts_gap, starts_white}
 use Rattle.ppm_read.proofs.Rasters.{Ends, row_count, rows_front, rows_spelled, samples_first, some_product}
 
 unless_ok : {A : Type 0} (o : Option PpmFault) (x y : A) → unless_fault o x ≡ Ok y → (o ≡ None) × (x ≡ y)
@@ -24,12 +24,12 @@ unless_ok None x y e = (refl, inside x y e)
 unless_ok (Some d) x y e = cc
 
 -- where the raster is
-raster_at_start : (text header rest : List ℕ) (start : ℕ) → text ≡ header ++ rest → start ≡ length text - length rest → drop start text ≡ rest
+pub raster_at_start : (text header rest : List ℕ) (start : ℕ) → text ≡ header ++ rest → start ≡ length text - length rest → drop start text ≡ rest
 raster_at_start text header rest start spelled e =
     let place : start ≡ length header = omega (arith, ap length spelled, length-append header rest) in
     (λ i. drop (place i) (spelled i)) ∙ drop-append_seam header rest
 
-channels_some : (channels : Channels) → 0 < channel_count channels
+pub channels_some : (channels : Channels) → 0 < channel_count channels
 channels_some Grey = omega arith
 channels_some Colour = omega arith
 
@@ -45,7 +45,7 @@ ends_of Plain rest follows = (follows, and_false (eqb (length rest) 0)) where
 ends_of Raw rest follows = tt
 
 begins_raster : (f : Format) (m : ℕ) (s bytes rest : List ℕ) → 0 < length s → AreSamples f m s bytes → BeginsRaster f (bytes ++ rest)
-begins_raster Plain m s bytes rest lt are = samples_first m s bytes rest lt are
+begins_raster Plain m s bytes rest lt are = starts_gap (bytes ++ rest) (starts_white (bytes ++ rest) (samples_first m s bytes rest lt are))
 begins_raster Raw m s bytes rest lt are = tt
 
 -- a picture that is read

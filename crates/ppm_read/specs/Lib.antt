@@ -7,3 +7,4 @@ pub mod Plain
 pub mod Full
 pub mod Spelling
 pub mod Size
+pub mod Breaking

@@ -1,11 +1,13 @@
 // What the definitions say of a text, in the words of its grammar.
-ghost use Rattle.std.specs.Prelude.{◌≡◌, ◌↔◌, ℕ, List, Ok};
+ghost use Rattle.std.specs.Prelude.{◌≡◌, ◌↔◌, ℕ, List, Result};
+ghost use Rattle.ppm_read.specs.declared.fault.PpmFault.{PpmFault};
 ghost use Rattle.ppm_read.specs.Full.{FullPicture, full_picture};
-ghost use Rattle.ppm_read.specs.Spelling.{IsSpelled};
+ghost use Rattle.ppm_read.specs.Breaking.{IsOutcome};
 
-/// A law that does no work: which texts have a full picture, and which pixels it has, in the words of
-/// the grammar. `read_head` and `Rows` are held to the same definition, part by part.
-pub fn every_picture_is_spelled()
-    ensures { (text : List ℕ) (picture : FullPicture)
-        → (full_picture text ≡ Ok picture) ↔ IsSpelled picture text }
+/// A law that does no work: which texts have a full picture, which pixels it has, and which fault any
+/// other text has, in the words of the grammar. `read_head` and `Rows` are held to the same
+/// definition, part by part.
+pub fn every_text_has_its_outcome()
+    ensures { (text : List ℕ) (outcome : Result FullPicture PpmFault)
+        → (full_picture text ≡ outcome) ↔ IsOutcome text outcome }
 {}

@@ -11,7 +11,7 @@ mod raw;
 mod rows;
 
 pub use fault::PpmFault;
-pub use grammar::every_picture_is_spelled;
+pub use grammar::every_text_has_its_outcome;
 pub use header::{Head, read_head};
 pub use rows::Rows;
 
