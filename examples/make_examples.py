@@ -2,12 +2,13 @@
 """Writes the pictures in images/ and the expected output and status of the scripts, NAME.out.
 
 Each picture is a formula: from a place (x, y), counted from the top left, to red, green and blue.
-Its text is `P6`, the size, the maximum 255 and three bytes a pixel, from the top row. A `dump` line
-prints four bytes a pixel, with an alpha of 255, and a `show` line prints their SHA-256. The expected
-output is worked out here from the formulas, and never taken from the program.
+Its text is `P6`, the size, the maximum 255 and three bytes a pixel, from the top row; or a Windows
+bitmap. A `dump` line prints four bytes a pixel, with an alpha of 255, and a `show` line prints their
+SHA-256. The expected output is worked out here from the formulas, and never taken from the program.
 """
 import hashlib
 import os
+import struct
 from fractions import Fraction
 
 HERE = os.path.dirname(os.path.abspath(__file__))
@@ -20,6 +21,8 @@ PICTURES = {
     "gradient": (8, 8, lambda x, y: (36 * x, 36 * y, 128)),
     # Black and white.
     "checkerboard": (4, 4, lambda x, y: (255, 255, 255) if (x + y) % 2 else (0, 0, 0)),
+    # Red grows to the right, blue downwards. Its rows have 15 bytes, so a bitmap pads them to 16.
+    "stairs": (5, 3, lambda x, y: (50 * x, 10, 100 * y)),
 }
 
 
@@ -31,6 +34,16 @@ def places(name):
 def text(name):
     width, height, _ = PICTURES[name]
     return b"P6\n%d %d\n255\n" % (width, height) + b"".join(bytes(p) for p in places(name))
+
+
+def bitmap(name):
+    # A file header of 14 bytes and an info header of 40. Then the rows from the bottom, each padded to a
+    # multiple of four bytes, with blue, green and red a pixel.
+    width, height, pixel = PICTURES[name]
+    rows = [b"".join(bytes(reversed(pixel(x, y))) for x in range(width)) for y in range(height)]
+    raster = b"".join(row + bytes(-len(row) % 4) for row in reversed(rows))
+    info = struct.pack("<IiiHHIIiiII", 40, width, height, 1, 24, 0, len(raster), 0, 0, 0, 0)
+    return b"BM" + struct.pack("<IHHI", 54 + len(raster), 0, 0, 54) + info + raster
 
 
 def stored(name):
@@ -108,7 +121,7 @@ CONFIGS = {
 }
 
 
-def shown(view, name, wanted_width, wanted_height, transform, config, rule="atleast"):
+def resized(view, name, wanted_width, wanted_height, transform, config, rule="atleast"):
     width, height, pixel = PICTURES[name]
     rows = [[pixel(x, y) for x in range(width)] for y in range(height)]
     rows = sampled(rows, sample_for(width, height, wanted_width, wanted_height, rule))
@@ -117,6 +130,7 @@ def shown(view, name, wanted_width, wanted_height, transform, config, rule="atle
 
 
 IMAGES = {name: text(name) for name in PICTURES} | {
+    "stairs": bitmap("stairs"),
     # Two bytes behind the raster, which are ignored.
     "long": text("red") + b"\0\0",
     # The last byte is missing.
@@ -132,10 +146,12 @@ OUTPUTS = {
         pixels("left", "checkerboard"),
         pixels("middle", "checkerboard"),
         pixels("last", "red"),
+        pixels("below", "stairs"),
         shown("left", "checkerboard"),
         shown("middle", "checkerboard"),
         shown("right", "gradient"),
         shown("last", "red"),
+        shown("below", "stairs"),
     ]),
     "failures": (1, [
         "gone failed missing",
@@ -145,12 +161,12 @@ OUTPUTS = {
         "gone failed missing",
     ]),
     "sizes": (1, [
-        shown("half", "gradient", 4, 4, "none", "argb"),
-        shown("less", "gradient", 3, 3, "none", "argb", "atmost"),
-        shown("fitted", "gradient", 4, 2, "fit", "rgb565"),
-        shown("middle", "gradient", 4, 2, "crop", "argb"),
-        shown("larger", "checkerboard", 8, 8, "fit", "rgb565"),
-        shown("same", "red", 16, 16, "inside", "alpha"),
+        resized("half", "gradient", 4, 4, "none", "argb"),
+        resized("less", "gradient", 3, 3, "none", "argb", "atmost"),
+        resized("fitted", "gradient", 4, 2, "fit", "rgb565"),
+        resized("middle", "gradient", 4, 2, "crop", "argb"),
+        resized("larger", "checkerboard", 8, 8, "fit", "rgb565"),
+        resized("same", "red", 16, 16, "inside", "alpha"),
         "huge failed refused too-large",
     ]),
 }

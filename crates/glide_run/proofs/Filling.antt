@@ -9,8 +9,7 @@ use Rattle.bitmap_kind.specs.Stored.{overwritten, stored, pixel_bytes}
 use Rattle.bitmap_kind.specs.Picture.{Picture, BitmapValue, IsSize}
 use Rattle.bitmap_kind.proofs.Packing.{length-stored, stored-append}
 use Rattle.bitmap_kind.proofs.Places.{row_inside, length-overwritten}
-use Rattle.ppm_read.specs.Raster.{RowsLeft, with_row}
-use Rattle.ppm_read.specs.Size.{HasRows}
+use Rattle.glide_run.specs.PictureRows.{RowsLeft, with_row, HasRows}
 use Rattle.glide_run.specs.Filled.{IsBitmap, IsFilled, KeepsShape}
 
 -- ---- the rows that are read
@@ -24,24 +23,24 @@ pub next_rest : (all old new : RowsLeft) (y : ℕ) (row : List ℕ) → old ≡ 
 next_rest all old new y row e f =
     let here : drop y all.rows ≡ row ∷ new.rows = ap (λ (l : RowsLeft). l.rows) (sym e ∙ f) in
     let wide : new.width ≡ all.width = sym (ap (λ (l : RowsLeft). l.width) (sym e ∙ f)) in
-    let fault : new.fault ≡ all.fault = sym (ap (λ (l : RowsLeft). l.fault) (sym e ∙ f)) in
+    let refusal : new.refusal ≡ all.refusal = sym (ap (λ (l : RowsLeft). l.refusal) (sym e ∙ f)) in
     let rows : new.rows ≡ drop (y + 1) all.rows = ap (drop 1) (sym here) ∙ drop-drop 1 y all.rows in (
-      λ i. record { width = wide i; rows = rows i; fault = fault i },
+      λ i. record { width = wide i; rows = rows i; refusal = refusal i },
       omega (arith, ap length here, length-drop y all.rows),
       ap concat (take-add y 1 all.rows ∙ ap (λ l. take y all.rows ++ take 1 l) here) ∙ concat-append (take y all.rows) (row ∷ []) ∙ ap (λ l. concat (take y all.rows) ++ l) (append-nil row),
       ap concat here ∙ ap (λ l. row ++ concat l) rows,
     )
 
-rows_all : (h : ℕ) (all : RowsLeft) → HasRows h all → all.fault ≡ None → length all.rows ≡ h
+rows_all : (h : ℕ) (all : RowsLeft) → HasRows h all → all.refusal ≡ None → length all.rows ≡ h
 rows_all h all (inl whole) e = whole.0
 rows_all h all (inr fewer) e = let none : ⊥ = grind (arith, fewer.1, e) in absurd none
 
 -- no row is left, and no fault comes: all were read
-pub rows_done : (h y : ℕ) (all old : RowsLeft) → HasRows h all → old ≡ rest_of all y → y ≤ length all.rows → old.rows ≡ [] → old.fault ≡ None → (all.fault ≡ None) × (y ≡ h) × (concat (take y all.rows) ≡ concat all.rows)
+pub rows_done : (h y : ℕ) (all old : RowsLeft) → HasRows h all → old ≡ rest_of all y → y ≤ length all.rows → old.rows ≡ [] → old.refusal ≡ None → (all.refusal ≡ None) × (y ≡ h) × (concat (take y all.rows) ≡ concat all.rows)
 rows_done h y all old count e below none fine =
     let empty : drop y all.rows ≡ [] = sym (ap (λ (l : RowsLeft). l.rows) e) ∙ none in
     let last : y ≡ length all.rows = omega (arith, ap length empty, length-drop y all.rows) in
-    let clean : all.fault ≡ None = sym (ap (λ (l : RowsLeft). l.fault) e) ∙ fine in
+    let clean : all.refusal ≡ None = sym (ap (λ (l : RowsLeft). l.refusal) e) ∙ fine in
     (clean, last ∙ rows_all h all count clean, ap concat (take_all y all.rows (omega arith)))
 
 -- ---- the rows that stand in a bitmap

@@ -17,14 +17,14 @@ use Rattle.glide_run.specs.declared.views.View as code_view
 use Rattle.glide_run.specs.declared.printing.Form as code_form
 use Rattle.glide_run.specs.declared.printing.Form.TheVariants as forms
 use Rattle.glide_run.specs.Script.{Key, Command, Nothing, Bad, Load, Dump, Show}
-use Rattle.glide_run.specs.Pictures.{Refusal, Unknown, Unbuilt, TooLarge, refusal_of}
+use Rattle.glide_run.specs.Pictures.{Refusal, Unknown, TooLarge, ppm_refusal, bmp_refusal}
 use Rattle.glide_run.specs.Views.{Cause, Missing, Refused, Source, Memory, Uncached, State, Running, Complete, Failed, Seen}
 use Rattle.glide_run.specs.Printed.{Form, Pixels, Digest}
 
 abbrev pub refusal_by : code_refusal.Refusal → Refusal
 refusal_by refusals.Unknown = Unknown
-refusal_by refusals.Unbuilt = Unbuilt
-refusal_by (refusals.Ppm fault) = refusal_of fault
+refusal_by (refusals.Ppm fault) = ppm_refusal fault
+refusal_by (refusals.Bmp fault) = bmp_refusal fault
 refusal_by refusals.TooLarge = TooLarge
 
 abbrev pub cause_by : code_cause.Cause → Cause

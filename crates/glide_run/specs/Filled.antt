@@ -3,10 +3,11 @@ use Rattle.std.specs.Prelude.{◌≡◌, ℕ, ◌+◌, ◌*◌, ◌≤◌, false
 use Rattle.std.specs.List.{flat_map, range_with_len}
 use Rattle.bitmap_kind.specs.Stored.{pixel_bytes, stored}
 use Rattle.bitmap_kind.specs.Picture.{Picture, BitmapValue, IsSize, stored_size}
-use Rattle.ppm_read.specs.declared.fault.PpmFault.{PpmFault}
-use Rattle.ppm_read.specs.Raster.{RowsLeft}
 use Rattle.sampling.specs.Sampled.{sampled_side, sampled_row}
 use Rattle.sampling.specs.BoxValue.{BoxValue, Holds}
+use Rattle.glide_run.specs.declared.causes.Refusal as code_refusal
+use Rattle.glide_run.specs.CodeTypes.{refusal_by}
+use Rattle.glide_run.specs.PictureRows.{RowsLeft}
 
 -- what the picture of each bitmap is: of a size that a bitmap may have, and with all its bytes
 pub record IsBitmap (picture : Picture) : Type 0 where
@@ -24,10 +25,10 @@ pub record IsFilled (picture : Picture) (rows : ℕ) (pixels : List ℕ) : Type 
 abbrev pub KeepsShape : BitmapValue → BitmapValue → Type 0
 KeepsShape old new = new ≡ record old { picture = record old.picture { bytes = new.picture.bytes } }
 
--- All rows could be read, and the bitmap is these pixels; or the fault came that stands behind them.
-abbrev pub Fills : {A : Type 0} → Result A PpmFault → RowsLeft → List ℕ → BitmapValue → BitmapValue → Type 0
-Fills (Ok done) rows pixels old new = (rows.fault ≡ None) × (new.picture ≡ record old.picture { bytes = stored old.picture.config pixels })
-Fills (Err fault) rows pixels old new = rows.fault ≡ Some fault
+-- All rows could be read, and the bitmap is these pixels; or the refusal came that stands behind them.
+abbrev pub Fills : {A : Type 0} → Result A code_refusal.Refusal → RowsLeft → List ℕ → BitmapValue → BitmapValue → Type 0
+Fills (Ok done) rows pixels old new = (rows.refusal ≡ None) × (new.picture ≡ record old.picture { bytes = stored old.picture.config pixels })
+Fills (Err refusal) rows pixels old new = rows.refusal ≡ Some (refusal_by refusal)
 
 -- ---- rows that are sampled
 

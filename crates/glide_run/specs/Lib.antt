@@ -5,6 +5,7 @@ pub mod Printed
 pub mod Walk
 pub mod Run
 pub mod CodeTypes
+pub mod PictureRows
 pub mod Planning
 pub mod Filled
 pub mod Effects

@@ -5,34 +5,62 @@ use Rattle.bitmap_kind.specs.declared.bitmaps.Config.{Config}
 use Rattle.bitmap_kind.specs.Stored.{stored}
 use Rattle.bitmap_kind.specs.Picture.{Picture}
 use Rattle.ppm_read.specs.declared.fault.PpmFault.{PpmFault}
-use Rattle.ppm_read.specs.declared.fault.PpmFault.TheVariants as faults
-use Rattle.ppm_read.specs.declared.header.Head.{Head}
-use Rattle.ppm_read.specs.Header.{head_of}
-use Rattle.ppm_read.specs.Full.{FullPicture, full_picture_under}
+use Rattle.ppm_read.specs.declared.fault.PpmFault.TheVariants as ppm_faults
+use Rattle.ppm_read.specs.declared.header.Head as ppm_head
+use Rattle.ppm_read.specs.Header as ppm_header
+use Rattle.ppm_read.specs.Full.{FullPicture}
+use Rattle.ppm_read.specs.Full as ppm_full
+use Rattle.bmp_read.specs.declared.fault.BmpFault.{BmpFault}
+use Rattle.bmp_read.specs.declared.fault.BmpFault.TheVariants as bmp_faults
+use Rattle.bmp_read.specs.declared.header.Head as bmp_head
+use Rattle.bmp_read.specs.Header as bmp_header
+use Rattle.bmp_read.specs.Full as bmp_full
 use Rattle.sampling.specs.Sample.{sample_of}
 use Rattle.sampling.specs.Sampled.{sampled_side, sampled_picture}
 use Rattle.transforms.specs.Sizes.{target_size}
 use Rattle.transforms.specs.Moved.{moved}
 use Rattle.glide_run.specs.Script.{Key}
 
--- why a text has no picture: it is of no known kind, or of one that is not built yet; it breaks a rule of its kind; or it is too large
+-- why a text has no picture: it is of no known kind; it breaks a rule of its kind; or it is too large
 pub data Refusal : Type 0 where
   Unknown : Refusal
-  Unbuilt : Refusal
   BadNumber : Refusal
   BadSize : Refusal
   BadMaximum : Refusal
   SampleAbove : Refusal
   Truncated : Refusal
+  BadHeader : Refusal
+  Compressed : ℕ → Refusal
+  BadDepth : Refusal
+  BadMasks : Refusal
   TooLarge : Refusal
 
-abbrev pub refusal_of : PpmFault → Refusal
-refusal_of faults.BadMagic = Unknown
-refusal_of faults.BadNumber = BadNumber
-refusal_of faults.BadSize = BadSize
-refusal_of faults.BadMaximum = BadMaximum
-refusal_of faults.SampleAbove = SampleAbove
-refusal_of faults.Truncated = Truncated
+abbrev pub ppm_refusal : PpmFault → Refusal
+ppm_refusal ppm_faults.BadMagic = Unknown
+ppm_refusal ppm_faults.BadNumber = BadNumber
+ppm_refusal ppm_faults.BadSize = BadSize
+ppm_refusal ppm_faults.BadMaximum = BadMaximum
+ppm_refusal ppm_faults.SampleAbove = SampleAbove
+ppm_refusal ppm_faults.Truncated = Truncated
+
+abbrev pub bmp_refusal : BmpFault → Refusal
+bmp_refusal bmp_faults.BadMagic = Unknown
+bmp_refusal bmp_faults.BadHeader = BadHeader
+bmp_refusal bmp_faults.BadSize = BadSize
+bmp_refusal (bmp_faults.Compressed number) = Compressed number
+bmp_refusal bmp_faults.BadDepth = BadDepth
+bmp_refusal bmp_faults.BadMasks = BadMasks
+bmp_refusal bmp_faults.Truncated = Truncated
+
+-- ---- the full pictures: those of both kinds have a size, and red, green, blue and alpha of each pixel from the top row
+
+abbrev pub ppm_picture : Result FullPicture PpmFault → Result FullPicture Refusal
+ppm_picture (Ok full) = Ok full
+ppm_picture (Err fault) = Err (ppm_refusal fault)
+
+abbrev pub bmp_picture : Result bmp_full.FullPicture BmpFault → Result FullPicture Refusal
+bmp_picture (Ok full) = Ok record { width = full.width; height = full.height; pixels = full.pixels }
+bmp_picture (Err fault) = Err (bmp_refusal fault)
 
 -- ---- the sizes, which are a width and a height
 
@@ -77,15 +105,29 @@ shown_picture key full =
     let sample = sample_of (full.width, full.height) (wanted_size key) key.rule in
     moved (decoded_picture key.config sample full) key.transform key.width key.height
 
--- what becomes of a full picture, or the refusal for the fault that comes in its place
-abbrev pub picture_or_refusal : (FullPicture → Picture) → Result FullPicture PpmFault → Result Picture Refusal
+-- what becomes of a full picture, or the refusal that comes in its place
+abbrev pub picture_or_refusal : (FullPicture → Picture) → Result FullPicture Refusal → Result Picture Refusal
 picture_or_refusal shown (Ok full) = Ok (shown full)
-picture_or_refusal shown (Err fault) = Err (refusal_of fault)
+picture_or_refusal shown (Err refusal) = Err refusal
 
-abbrev pub picture_under : List ℕ → Key → Result Head PpmFault → Result Picture Refusal
-picture_under text key (Err fault) = Err (refusal_of fault)
-picture_under text key (Ok head) = if is_too_large (head.width, head.height) key then Err TooLarge else picture_or_refusal (shown_picture key) (full_picture_under head text)
+-- of a source of this size, as its header says, whose raster gives this full picture or refusal
+abbrev pub picture_under : Key → ℕ × ℕ → Result FullPicture Refusal → Result Picture Refusal
+picture_under key source full = if is_too_large source key then Err TooLarge else picture_or_refusal (shown_picture key) full
 
--- The picture of a text under a key, or the first refusal: of the kind, of the header, of the sizes, of the raster. A text that begins with `BM` is a bitmap file, which is not built yet.
+-- of a Netpbm text with this header, or header's fault
+abbrev pub ppm_picture_of : List ℕ → Key → Result ppm_head.Head PpmFault → Result Picture Refusal
+ppm_picture_of text key (Ok head) = picture_under key (head.width, head.height) (ppm_picture (ppm_full.full_picture_under head text))
+ppm_picture_of text key (Err fault) = Err (ppm_refusal fault)
+
+-- of a Windows bitmap with this header, or header's fault
+abbrev pub bmp_picture_of : List ℕ → Key → Result bmp_head.Head BmpFault → Result Picture Refusal
+bmp_picture_of text key (Ok head) = picture_under key (head.width, head.height) (bmp_picture (bmp_full.full_picture_under head text))
+bmp_picture_of text key (Err fault) = Err (bmp_refusal fault)
+
+-- The picture of a text under a key, or the first refusal: of the kind, of the header, of the sizes, of the raster. A text that
+-- begins with `BM` is a Windows bitmap. Any other is read as a Netpbm text, which is of no known kind where its magic number is
+-- of none of theirs.
 abbrev pub picture_of : List ℕ → Key → Result Picture Refusal
-picture_of text key = if starts_with nat_eq text (codes "BM") then Err Unbuilt else picture_under text key (head_of text)
+picture_of text key =
+    if starts_with nat_eq text (codes "BM") then bmp_picture_of text key (bmp_header.head_of text)
+    else ppm_picture_of text key (ppm_header.head_of text)

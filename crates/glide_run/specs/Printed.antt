@@ -7,17 +7,20 @@ use Rattle.sha2.specs.Sha256.{sha256}
 use Rattle.bitmap_kind.specs.declared.bitmaps.Config.{Config}
 use Rattle.bitmap_kind.specs.declared.bitmaps.Config.TheVariants.{Argb8888, Rgb565, Alpha8}
 use Rattle.bitmap_kind.specs.Picture.{Picture}
-use Rattle.glide_run.specs.Pictures.{Refusal, Unknown, Unbuilt, BadNumber, BadSize, BadMaximum, SampleAbove, Truncated, TooLarge}
+use Rattle.glide_run.specs.Pictures.{Refusal, Unknown, BadNumber, BadSize, BadMaximum, SampleAbove, Truncated, BadHeader, Compressed, BadDepth, BadMasks, TooLarge}
 use Rattle.glide_run.specs.Views.{Cause, Missing, Refused, Source, Memory, Uncached, State, Running, Complete, Failed, Seen}
 
 abbrev pub refusal_text : Refusal → List ℕ
 refusal_text Unknown = codes "unknown"
-refusal_text Unbuilt = codes "unbuilt"
 refusal_text BadNumber = codes "bad-number"
 refusal_text BadSize = codes "bad-size"
 refusal_text BadMaximum = codes "bad-maximum"
 refusal_text SampleAbove = codes "sample-above"
 refusal_text Truncated = codes "truncated"
+refusal_text BadHeader = codes "bad-header"
+refusal_text (Compressed number) = codes "compressed " ++ decimal number
+refusal_text BadDepth = codes "bad-depth"
+refusal_text BadMasks = codes "bad-masks"
 refusal_text TooLarge = codes "too-large"
 
 abbrev pub cause_text : Cause → List ℕ

@@ -1,4 +1,5 @@
 // Why a text has no picture, and why a view failed.
+use bmp_read::BmpFault;
 use ppm_read::PpmFault;
 
 /// Why a text has no picture.
@@ -6,10 +7,10 @@ use ppm_read::PpmFault;
 pub enum Refusal {
     /// It begins with the magic of no kind of picture.
     Unknown,
-    /// It begins as a Windows bitmap, which is not read yet.
-    Unbuilt,
     /// It breaks a rule of the Netpbm reader.
     Ppm(PpmFault),
+    /// It breaks a rule of the reader of Windows bitmaps.
+    Bmp(BmpFault),
     /// The source, or what would be shown of it, is beyond the limits on sides and pixels.
     TooLarge,
 }

@@ -1,11 +1,12 @@
 // From a text to its picture.
 ghost use Rattle.std.specs.Prelude.{◌≡◌, ℕ, ◌+◌, ◌*◌, ◌<◌, ◌≤◌, length, Ok, IfOk};
 ghost use Rattle.bitmap_kind.specs.Picture.{IsSize};
-ghost use Rattle.ppm_read.specs.Header.{head_of};
-ghost use Rattle.ppm_read.specs.Full.{full_picture_under};
+ghost use Rattle.ppm_read.specs.Header as ppm_header;
+ghost use Rattle.bmp_read.specs.Header as bmp_header;
 ghost use Rattle.transforms.specs.Sizes.{target_size};
 ghost use Rattle.transforms.specs.Moved.{moved};
-ghost use Rattle.glide_run.specs.Pictures.{sampled_size, decoded_picture, shown_picture, picture_or_refusal, picture_of};
+ghost use Rattle.glide_run.specs.Pictures.{sampled_size, decoded_picture, shown_picture, picture_or_refusal, picture_under, ppm_picture_of, bmp_picture_of, picture_of};
+ghost use Rattle.glide_run.specs.PictureRows.{rows_by, HasRows, full_of};
 ghost use Rattle.glide_run.specs.CodeTypes.{key_by, Decodes, DecodesInto};
 ghost use Rattle.glide_run.specs.Planning.{IsPlan};
 ghost use Rattle.glide_run.specs.Filled.{IsBitmap};
@@ -14,9 +15,9 @@ use crate::causes::Refusal;
 use crate::keys::EngineKey;
 use crate::plan::{Plan, plan_of};
 use crate::raster::{put_rows, put_sampled_rows};
+use crate::rows::PictureRows;
 use bitmap_kind::Bitmap;
 use outside::NoMemory;
-use ppm_read::{Head, Rows, read_head};
 use sampling::BoxRows;
 use std::alloc::Global;
 use transforms::transform;
@@ -27,39 +28,39 @@ pub enum DecodeFault {
     Memory,
 }
 
-// Decodes the raster behind a header into a bitmap of the sampled size, row by row with one row buffer. Whatever stood
-// in the bitmap is overwritten.
+// Decodes all rows of a picture of this size into a bitmap of the sampled size, one by one with one row buffer. Whatever
+// stood in the bitmap is overwritten.
 fn decode_into(
     alloc: Global,
-    text: &[u8],
-    head: Head,
+    rows: &mut PictureRows<'_>,
+    size: (u32, u32),
     sample: u32,
     bitmap: &mut Bitmap,
 ) -> Result<(), DecodeFault>
-    requires head { head_of text.now ≡ Ok head }
-    requires wide { 1 ≤ head.width }
-    requires high { 1 ≤ head.height }
+    requires width { (rows_by rows.old).width ≡ size.0 }
+    requires count { HasRows size.1 (rows_by rows.old) }
+    requires wide { 1 ≤ size.0 }
+    requires high { 1 ≤ size.1 }
     requires sampled { 1 ≤ sample }
     requires bitmap { IsBitmap bitmap.old.picture }
-    requires size { (bitmap.old.picture.width, bitmap.old.picture.height) ≡ sampled_size sample (head.width, head.height) }
-    ensures { DecodesInto result bitmap.new (picture_or_refusal (decoded_picture bitmap.old.picture.config sample) (full_picture_under head text.now)) }
+    requires size { (bitmap.old.picture.width, bitmap.old.picture.height) ≡ sampled_size sample size }
+    ensures { DecodesInto result bitmap.new (picture_or_refusal (decoded_picture bitmap.old.picture.config sample) (full_of size (rows_by rows.old))) }
 {
-    let Ok(mut row) = vec![in alloc; 0u8; 4 * head.width as usize] else {
+    let Ok(mut row) = vec![in alloc; 0u8; 4 * size.0 as usize] else {
         return Err(DecodeFault::Memory);
     };
-    let mut rows = Rows::new(text, head);
     if sample == 1 {
-        return match put_rows(&mut rows, &mut row, bitmap) {
+        return match put_rows(rows, &mut row, bitmap) {
             Ok(()) => Ok(()),
-            Err(fault) => Err(DecodeFault::Refused(Refusal::Ppm(fault))),
+            Err(refusal) => Err(DecodeFault::Refused(refusal)),
         };
     }
-    let Ok(mut boxes) = BoxRows::new(alloc, head.width, head.height, sample) else {
+    let Ok(mut boxes) = BoxRows::new(alloc, size.0, size.1, sample) else {
         return Err(DecodeFault::Memory);
     };
-    match put_sampled_rows(&mut rows, &mut boxes, &mut row, bitmap) {
+    match put_sampled_rows(rows, &mut boxes, &mut row, bitmap) {
         Ok(()) => Ok(()),
-        Err(fault) => Err(DecodeFault::Refused(Refusal::Ppm(fault))),
+        Err(refusal) => Err(DecodeFault::Refused(refusal)),
     }
 }
 
@@ -87,25 +88,26 @@ fn transformed(
     Ok(bitmap)
 }
 
-// The picture behind a header under a key.
+// The picture of all these rows under a key and its plan.
 fn decode_planned(
     alloc: Global,
-    text: &[u8],
-    head: Head,
+    rows: &mut PictureRows<'_>,
+    size: (u32, u32),
     plan: &Plan,
     key: &EngineKey,
 ) -> Result<Bitmap, DecodeFault>
-    requires head { head_of text.now ≡ Ok head }
-    requires wide { 1 ≤ head.width }
-    requires high { 1 ≤ head.height }
-    requires plan { IsPlan plan.now (head.width, head.height) (key_by key.now) }
-    ensures { Decodes result (picture_or_refusal (shown_picture (key_by key.now)) (full_picture_under head text.now)) }
+    requires width { (rows_by rows.old).width ≡ size.0 }
+    requires count { HasRows size.1 (rows_by rows.old) }
+    requires wide { 1 ≤ size.0 }
+    requires high { 1 ≤ size.1 }
+    requires plan { IsPlan plan.now size (key_by key.now) }
+    ensures { Decodes result (picture_or_refusal (shown_picture (key_by key.now)) (full_of size (rows_by rows.old))) }
 {
     let (width, height) = plan.decoded;
     let Ok(mut bitmap) = Bitmap::make(alloc, 0, width, height, plan.config) else {
         return Err(DecodeFault::Memory);
     };
-    match decode_into(alloc, text, head, plan.sample, &mut bitmap) {
+    match decode_into(alloc, rows, size, plan.sample, &mut bitmap) {
         Ok(()) => {}
         Err(fault) => return Err(fault),
     }
@@ -115,7 +117,49 @@ fn decode_planned(
     }
 }
 
-/// The picture of a text under a key.
+// The picture of all these rows under a key, which is planned by the size that the header says.
+fn decode_rows(
+    alloc: Global,
+    rows: &mut PictureRows<'_>,
+    size: (u32, u32),
+    key: &EngineKey,
+) -> Result<Bitmap, DecodeFault>
+    requires width { (rows_by rows.old).width ≡ size.0 }
+    requires count { HasRows size.1 (rows_by rows.old) }
+    requires wide { 1 ≤ size.0 }
+    requires high { 1 ≤ size.1 }
+    ensures { Decodes result (picture_under (key_by key.now) size (full_of size (rows_by rows.old))) }
+{
+    match plan_of(size, key) {
+        Ok(plan) => decode_planned(alloc, rows, size, &plan, key),
+        Err(refusal) => Err(DecodeFault::Refused(refusal)),
+    }
+}
+
+fn decode_ppm(alloc: Global, text: &[u8], key: &EngineKey) -> Result<Bitmap, DecodeFault>
+    ensures { Decodes result (ppm_picture_of text.now (key_by key.now) (ppm_header.head_of text.now)) }
+{
+    let head = match ppm_read::read_head(text) {
+        Ok(head) => head,
+        Err(fault) => return Err(DecodeFault::Refused(Refusal::Ppm(fault))),
+    };
+    let mut rows = PictureRows::of_ppm(text, head);
+    decode_rows(alloc, &mut rows, (head.width, head.height), key)
+}
+
+fn decode_bmp(alloc: Global, text: &[u8], key: &EngineKey) -> Result<Bitmap, DecodeFault>
+    ensures { Decodes result (bmp_picture_of text.now (key_by key.now) (bmp_header.head_of text.now)) }
+{
+    let head = match bmp_read::read_head(text) {
+        Ok(head) => head,
+        Err(fault) => return Err(DecodeFault::Refused(Refusal::Bmp(fault))),
+    };
+    let mut rows = PictureRows::of_bmp(text, head);
+    decode_rows(alloc, &mut rows, (head.width, head.height), key)
+}
+
+/// The picture of a text under a key. A text that begins with `BM` is a Windows bitmap, and any other is read as a
+/// Netpbm text.
 ///
 /// A text is refused by the first rule that it breaks: of its kind, of its header, of the sizes (`TooLarge`), and of its
 /// raster. No memory is taken before the first three are tested.
@@ -123,14 +167,7 @@ pub fn decode(alloc: Global, text: &[u8], key: &EngineKey) -> Result<Bitmap, Dec
     ensures { Decodes result (picture_of text.now (key_by key.now)) }
 {
     if text.starts_with(b"BM") {
-        return Err(DecodeFault::Refused(Refusal::Unbuilt));
+        return decode_bmp(alloc, text, key);
     }
-    let head = match read_head(text) {
-        Ok(head) => head,
-        Err(fault) => return Err(DecodeFault::Refused(Refusal::Ppm(fault))),
-    };
-    match plan_of(head, key) {
-        Ok(plan) => decode_planned(alloc, text, head, &plan, key),
-        Err(refusal) => Err(DecodeFault::Refused(refusal)),
-    }
+    decode_ppm(alloc, text, key)
 }

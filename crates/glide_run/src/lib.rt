@@ -11,6 +11,7 @@ mod printing;
 mod raster;
 mod reader;
 mod requests;
+mod rows;
 mod run;
 mod script;
 mod top;

@@ -7,7 +7,6 @@ ghost use Rattle.glide_run.specs.Planning.{Plans};
 use crate::causes::Refusal;
 use crate::keys::EngineKey;
 use bitmap_kind::{Bitmap, Config};
-use ppm_read::Head;
 use sampling::{sample_for, sampled_side};
 use transforms::target_size;
 
@@ -31,15 +30,14 @@ fn has_too_many_pixels(size: (u32, u32)) -> bool
     u64::from(size.0) * u64::from(size.1) > Bitmap::MOST_PIXELS
 }
 
-/// The plan of a picture with this header. `TooLarge` comes where a side of the source is above 16,384, and where the
+/// The plan of a picture whose header says this width and height, in pixels. `TooLarge` comes where a side of the source is above 16,384, and where the
 /// source, or what would be shown of it, has more than 33,554,432 pixels.
 #[tactic(auto, using(crate::proofs::Planned::sample_some))]
-pub fn plan_of(head: Head, key: &EngineKey) -> Result<Plan, Refusal>
-    requires wide { 1 ≤ head.width }
-    requires high { 1 ≤ head.height }
-    ensures { Plans result (head.width, head.height) (key_by key.now) }
+pub fn plan_of(source: (u32, u32), key: &EngineKey) -> Result<Plan, Refusal>
+    requires wide { 1 ≤ source.0 }
+    requires high { 1 ≤ source.1 }
+    ensures { Plans result source (key_by key.now) }
 {
-    let source = (head.width, head.height);
     if source.0 > MOST_SIDE {
         return Err(Refusal::TooLarge);
     }

@@ -6,12 +6,13 @@ ghost use Rattle.sha2.specs.Sha256.{sha256};
 ghost use Rattle.outside.specs.Causes.{HasCause};
 ghost use Rattle.glide_run.specs.Printed.{refusal_text, cause_text, config_word, picture_head, state_head, state_picture, line_as, lines_as, line_text, lines_text};
 ghost use Rattle.glide_run.specs.Effects.{WritesFront};
-ghost use Rattle.glide_run.specs.Pictures.{refusal_of};
+ghost use Rattle.glide_run.specs.Pictures.{ppm_refusal, bmp_refusal};
 ghost use Rattle.glide_run.specs.CodeTypes.{refusal_by, cause_by, state_by, view_by, views_by, form_by};
 
 use crate::causes::{Cause, Refusal};
 use crate::views::{View, ViewState};
 use bitmap_kind::{Bitmap, Config};
+use bmp_read::BmpFault;
 use outside::{Sink, WriteFault};
 use ppm_read::PpmFault;
 use sha2::{Digest, Sha256};
@@ -100,8 +101,8 @@ pub fn write_digest<W: Sink>(out: &mut W, bytes: &[u8]) -> Result<(), WriteFault
 }
 
 // What a line says of a view whose text is refused by the Netpbm reader.
-fn fault_line(fault: PpmFault) -> &'static [u8]
-    ensures { result.now ≡ codes "failed refused " ++ refusal_text (refusal_of fault) }
+fn ppm_line(fault: PpmFault) -> &'static [u8]
+    ensures { result.now ≡ codes "failed refused " ++ refusal_text (ppm_refusal fault) }
 {
     match fault {
         PpmFault::BadMagic => b"failed refused unknown",
@@ -113,28 +114,50 @@ fn fault_line(fault: PpmFault) -> &'static [u8]
     }
 }
 
-// What a line says of a view whose text is refused.
-fn refusal_line(refusal: Refusal) -> &'static [u8]
-    ensures { result.now ≡ codes "failed refused " ++ refusal_text (refusal_by refusal) }
+fn compressed_line(alloc: Global, number: u32) -> Result<Vec<u8>, AllocError>
+    ensures { IfOk result (λ line. line.items ≡ codes "failed refused compressed " ++ decimal number) }
 {
-    match refusal {
-        Refusal::Unknown => b"failed refused unknown",
-        Refusal::Unbuilt => b"failed refused unbuilt",
-        Refusal::Ppm(fault) => fault_line(fault),
-        Refusal::TooLarge => b"failed refused too-large",
+    let text = format!(in alloc; "failed refused compressed {number}")?;
+    Ok(text.into_bytes())
+}
+
+// What a line says of a view whose text is refused by the reader of Windows bitmaps.
+fn bmp_line(alloc: Global, fault: BmpFault) -> Result<Vec<u8>, AllocError>
+    ensures { IfOk result (λ line. line.items ≡ codes "failed refused " ++ refusal_text (bmp_refusal fault)) }
+{
+    match fault {
+        BmpFault::BadMagic => b"failed refused unknown".to_vec(alloc),
+        BmpFault::BadHeader => b"failed refused bad-header".to_vec(alloc),
+        BmpFault::BadSize => b"failed refused bad-size".to_vec(alloc),
+        BmpFault::Compressed(number) => compressed_line(alloc, number),
+        BmpFault::BadDepth => b"failed refused bad-depth".to_vec(alloc),
+        BmpFault::BadMasks => b"failed refused bad-masks".to_vec(alloc),
+        BmpFault::Truncated => b"failed refused truncated".to_vec(alloc),
     }
 }
 
-// Why a view failed, as its line says it.
-fn cause_text(cause: Cause) -> &'static [u8]
-    ensures { result.now ≡ codes "failed " ++ cause_text (cause_by cause) }
+// What a line says of a view whose text is refused.
+fn refusal_line(alloc: Global, refusal: Refusal) -> Result<Vec<u8>, AllocError>
+    ensures { IfOk result (λ line. line.items ≡ codes "failed refused " ++ refusal_text (refusal_by refusal)) }
+{
+    match refusal {
+        Refusal::Unknown => b"failed refused unknown".to_vec(alloc),
+        Refusal::Ppm(fault) => ppm_line(fault).to_vec(alloc),
+        Refusal::Bmp(fault) => bmp_line(alloc, fault),
+        Refusal::TooLarge => b"failed refused too-large".to_vec(alloc),
+    }
+}
+
+// What a line says of a view that failed.
+fn failed_line(alloc: Global, cause: Cause) -> Result<Vec<u8>, AllocError>
+    ensures { IfOk result (λ line. line.items ≡ codes "failed " ++ cause_text (cause_by cause)) }
 {
     match cause {
-        Cause::Missing => b"failed missing",
-        Cause::Refused(refusal) => refusal_line(refusal),
-        Cause::Source => b"failed source",
-        Cause::Memory => b"failed memory",
-        Cause::Uncached => b"failed uncached",
+        Cause::Missing => b"failed missing".to_vec(alloc),
+        Cause::Refused(refusal) => refusal_line(alloc, refusal),
+        Cause::Source => b"failed source".to_vec(alloc),
+        Cause::Memory => b"failed memory".to_vec(alloc),
+        Cause::Uncached => b"failed uncached".to_vec(alloc),
     }
 }
 
@@ -178,7 +201,7 @@ fn state_head(alloc: Global, form: Form, state: &ViewState) -> Result<Vec<u8>, A
     match state {
         ViewState::Running => b"running".to_vec(alloc),
         ViewState::Complete(bitmap) => picture_head(alloc, form, bitmap),
-        ViewState::Failed(cause) => cause_text(*cause).to_vec(alloc),
+        ViewState::Failed(cause) => failed_line(alloc, *cause),
     }
 }
 

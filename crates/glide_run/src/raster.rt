@@ -1,12 +1,13 @@
 // The rows of a raster, put into a bitmap from the top.
 ghost use Rattle.std.specs.Prelude.{◌≡◌, ℕ, ◌+◌, ◌*◌, ◌<◌, ◌≤◌, ◌++◌, List, [], false, length, OnOk};
 ghost use Rattle.std.specs.List.{concat};
-ghost use Rattle.ppm_read.specs.Size.{HasRows};
 ghost use Rattle.sampling.specs.Sampled.{sampled_side, sampled_picture};
+ghost use Rattle.glide_run.specs.PictureRows.{rows_by, HasRows};
 ghost use Rattle.glide_run.specs.Filled.{IsBitmap, IsFilled, KeepsShape, Fills, IsFresh, IsSampled, PushesRow};
 
+use crate::causes::Refusal;
+use crate::rows::PictureRows;
 use bitmap_kind::Bitmap;
-use ppm_read::{PpmFault, Rows};
 use sampling::BoxRows;
 
 // Puts a row of pixels below those that are there.
@@ -20,13 +21,13 @@ fn put_row(bitmap: &mut Bitmap, y: u32, row: &[u8])
 }
 
 /// Puts rows into a bitmap of their size. The row's buffer is overwritten.
-pub fn put_rows(rows: &mut Rows<'_>, row: &mut [u8], bitmap: &mut Bitmap) -> Result<(), PpmFault>
+pub fn put_rows(rows: &mut PictureRows<'_>, row: &mut [u8], bitmap: &mut Bitmap) -> Result<(), Refusal>
     requires bitmap { IsBitmap bitmap.old.picture }
-    requires width { rows.old.width ≡ bitmap.old.picture.width }
-    requires count { HasRows bitmap.old.picture.height rows.old }
+    requires width { (rows_by rows.old).width ≡ bitmap.old.picture.width }
+    requires count { HasRows bitmap.old.picture.height (rows_by rows.old) }
     requires row { length row.old ≡ 4 * bitmap.old.picture.width }
-    ensures pixels { OnOk result (length (concat rows.old.rows) ≡ 4 * (bitmap.old.picture.width * bitmap.old.picture.height)) }
-    ensures fills { Fills result rows.old (concat rows.old.rows) bitmap.old bitmap.new }
+    ensures pixels { OnOk result (length (concat (rows_by rows.old).rows) ≡ 4 * (bitmap.old.picture.width * bitmap.old.picture.height)) }
+    ensures fills { Fills result (rows_by rows.old) (concat (rows_by rows.old).rows) bitmap.old bitmap.new }
 {
     let mut y = 0;
     'rows: loop {
@@ -36,7 +37,7 @@ pub fn put_rows(rows: &mut Rows<'_>, row: &mut [u8], bitmap: &mut Bitmap) -> Res
                 y += 1;
             }
             Ok(false) => return Ok(()),
-            Err(fault) => return Err(fault),
+            Err(refusal) => return Err(refusal),
         }
     }
 }
@@ -67,26 +68,26 @@ fn put_sampled_row(boxes: &mut BoxRows, row: &mut [u8], y: u32, bitmap: &mut Bit
 /// Puts the sampled picture of rows into a bitmap of its size. All rows are read, also those behind the last that it
 /// uses. The row's buffer is overwritten.
 pub fn put_sampled_rows(
-    rows: &mut Rows<'_>,
+    rows: &mut PictureRows<'_>,
     boxes: &mut BoxRows,
     row: &mut [u8],
     bitmap: &mut Bitmap,
-) -> Result<(), PpmFault>
+) -> Result<(), Refusal>
     requires bitmap { IsBitmap bitmap.old.picture }
     requires wide { bitmap.old.picture.width ≡ sampled_side boxes.old.width boxes.old.sample }
     requires high { bitmap.old.picture.height ≡ sampled_side boxes.old.height boxes.old.sample }
     requires fresh { IsFresh boxes.old }
-    requires width { rows.old.width ≡ boxes.old.width }
-    requires count { HasRows boxes.old.height rows.old }
+    requires width { (rows_by rows.old).width ≡ boxes.old.width }
+    requires count { HasRows boxes.old.height (rows_by rows.old) }
     requires row { length row.old ≡ 4 * boxes.old.width }
-    ensures { Fills result rows.old (sampled_picture boxes.old.width boxes.old.height boxes.old.sample (concat rows.old.rows)) bitmap.old bitmap.new }
+    ensures { Fills result (rows_by rows.old) (sampled_picture boxes.old.width boxes.old.height boxes.old.sample (concat (rows_by rows.old).rows)) bitmap.old bitmap.new }
 {
     let mut y = 0;
     'rows: loop {
         match rows.next_row(row) {
             Ok(true) => y += put_sampled_row(boxes, row, y, bitmap),
             Ok(false) => return Ok(()),
-            Err(fault) => return Err(fault),
+            Err(refusal) => return Err(refusal),
         }
     }
 }

@@ -1,11 +1,11 @@
 // Whole runs over objects in memory. The bytes and statuses are worked by hand from the rules of docs/SCRIPT.md.
+ghost use Rattle.std.specs.Prelude.{◌≤◌, ◌+◌};
+
 use super::*;
 use crate::keys::{EngineKey, Text};
 use crate::plan::{Plan, plan_of};
-use crate::printing::write_digest;
 use bitmap_kind::{Config, Rule, Transform};
 use outside::{Content, MemoryInput, MemorySink, MemorySource, Source};
-use ppm_read::read_head;
 use std::alloc::{AllocError, Global};
 use std::process::Abort;
 use std::test::Fail;
@@ -29,6 +29,36 @@ const LINE_OF_FOUR: &[u8] = b"P6\n4 1\n255\n\x01\x01\x01\x02\x02\x02\x03\x03\x03
 // Grey pixels of 1 to 3 above 4 to 6.
 const SIX: &[u8] =
     b"P6\n3 2\n255\n\x01\x01\x01\x02\x02\x02\x03\x03\x03\x04\x04\x04\x05\x05\x05\x06\x06\x06";
+
+// A Windows bitmap of 3 by -1 pixels of 32 bits by masks, with an info header of 108 bytes: black, of the alphas 97, 98
+// and 99.
+const ALPHA: [u8; 134] = *b"BM\x86\x00\x00\x00\x00\x00\x00\x00\x7a\x00\x00\x00\
+    \x6c\x00\x00\x00\x03\x00\x00\x00\xff\xff\xff\xff\x01\x00\x20\x00\x03\x00\x00\x00\
+    \x0c\x00\x00\x00\x00\x00\x00\x00\x00\x00\x00\x00\x00\x00\x00\x00\x00\x00\x00\x00\
+    \x00\x00\xff\x00\x00\xff\x00\x00\xff\x00\x00\x00\x00\x00\x00\xff\
+    \x00\x00\x00\x00\x00\x00\x00\x00\x00\x00\x00\x00\x00\x00\x00\x00\x00\x00\x00\x00\
+    \x00\x00\x00\x00\x00\x00\x00\x00\x00\x00\x00\x00\x00\x00\x00\x00\x00\x00\x00\x00\
+    \x00\x00\x00\x00\x00\x00\x00\x00\x00\x00\x00\x00\
+    \x00\x00\x00\x61\x00\x00\x00\x62\x00\x00\x00\x63";
+
+// One of 3 by 2 pixels of 24 bits, from the bottom row.
+const BGR: &[u8] = b"BMN\x00\x00\x00\x00\x00\x00\x00\x36\x00\x00\x00\
+    \x28\x00\x00\x00\x03\x00\x00\x00\x02\x00\x00\x00\x01\x00\x18\x00\x00\x00\x00\x00\
+    \x00\x00\x00\x00\x00\x00\x00\x00\x00\x00\x00\x00\x00\x00\x00\x00\x00\x00\x00\x00\
+    \x01\x02\x03\x04\x05\x06\x07\x08\x09\x00\x00\x00\x0a\x0b\x0c\x0d\x0e\x0f\x10\x11\x12\x00\x00\x00";
+
+// One of 3 by 1 pixels of 8 bits, run-length encoded.
+const COMPRESSED: &[u8] = b"BM\x3e\x00\x00\x00\x00\x00\x00\x00\x3e\x00\x00\x00\
+    \x28\x00\x00\x00\x03\x00\x00\x00\x01\x00\x00\x00\x01\x00\x08\x00\x01\x00\x00\x00\
+    \x00\x00\x00\x00\x00\x00\x00\x00\x00\x00\x00\x00\x02\x00\x00\x00\x00\x00\x00\x00\
+    \x01\x02\x03\x00\x0a\x0b\x0c\x00";
+
+// One of 3 by -1 pixels of 4 bits and a palette of two colours: the indexes 0, 1 and 2.
+const INDEXED: &[u8] = b"BMB\x00\x00\x00\x00\x00\x00\x00\x3e\x00\x00\x00\
+    \x28\x00\x00\x00\x03\x00\x00\x00\xff\xff\xff\xff\x01\x00\x04\x00\x00\x00\x00\x00\
+    \x00\x00\x00\x00\x00\x00\x00\x00\x00\x00\x00\x00\x02\x00\x00\x00\x00\x00\x00\x00\
+    \x0a\x0b\x0c\x00\x0d\x0e\x0f\x00\
+    \x01\x20\x00\x00";
 
 const SCRIPT: &[u8] = b"load a red 1 2 1 none argb\ndump a\n";
 
@@ -138,7 +168,6 @@ fn pictures(rt: HostRuntime) -> Result<(), Fail> {
         b"a pixels 070707ff\n",
         0,
     )?;
-    check_red(&rt, alloc, b"BM", b"a failed refused unbuilt\n", 1)?;
     check_red(&rt, alloc, b"hello", b"a failed refused unknown\n", 1)?;
     Ok(())
 }
@@ -386,6 +415,134 @@ fn rows_behind_the_blocks(rt: HostRuntime) -> Result<(), Fail> {
     Ok(())
 }
 
+// Loads this text as 3 by 1 pixels, and dumps the view.
+fn check_bitmap(
+    rt: &impl Abort,
+    alloc: Global,
+    text: &[u8],
+    written: &[u8],
+    status: u8,
+) -> Result<(), Fail> {
+    check_picture(
+        rt,
+        alloc,
+        text,
+        b"load a red 1 3 1 none argb\ndump a\n",
+        written,
+        status,
+    )
+}
+
+// The same of `ALPHA` in which the four bytes from this place on are others.
+fn check_field(
+    rt: &impl Abort,
+    alloc: Global,
+    at: usize,
+    bytes: [u8; 4],
+    written: &[u8],
+) -> Result<(), Fail>
+    requires { at + 4 ≤ 134 }
+{
+    let mut text = ALPHA;
+    text[at] = bytes[0];
+    text[at + 1] = bytes[1];
+    text[at + 2] = bytes[2];
+    text[at + 3] = bytes[3];
+    check_bitmap(rt, alloc, &text, written, 1)
+}
+
+// The digest is that of `abc`, the first example of FIPS 180-4.
+#[test]
+fn bmp_with_masks(rt: HostRuntime) -> Result<(), Fail> {
+    check_picture(
+        &rt,
+        rt.alloc(),
+        &ALPHA,
+        b"load a red 1 3 1 none alpha\nshow\n",
+        b"a shown 3 1 alpha ba7816bf8f01cfea414140de5dae2223b00361a396177a9cb410ff61f20015ad\n",
+        0,
+    )
+}
+
+#[test]
+fn bmp_depths(rt: HostRuntime) -> Result<(), Fail> {
+    let alloc = rt.alloc();
+    check_picture(
+        &rt,
+        alloc,
+        BGR,
+        b"load a red 1 3 2 none argb\ndump a\n",
+        b"a pixels 0c0b0aff0f0e0dff121110ff030201ff060504ff090807ff\n",
+        0,
+    )?;
+    check_bitmap(
+        &rt,
+        alloc,
+        COMPRESSED,
+        b"a failed refused compressed 1\n",
+        1,
+    )?;
+    check_bitmap(
+        &rt,
+        alloc,
+        INDEXED,
+        b"a pixels 0c0b0aff0f0e0dff000000ff\n",
+        0,
+    )?;
+    Ok(())
+}
+
+#[test]
+fn broken_bmp_rules(rt: HostRuntime) -> Result<(), Fail> {
+    let alloc = rt.alloc();
+    check_bitmap(&rt, alloc, b"BM", b"a failed refused truncated\n", 1)?;
+    check_field(
+        &rt,
+        alloc,
+        14,
+        [56, 0, 0, 0],
+        b"a failed refused bad-header\n",
+    )?;
+    check_field(
+        &rt,
+        alloc,
+        22,
+        [0, 0, 0, 0x80],
+        b"a failed refused bad-size\n",
+    )?;
+    check_field(
+        &rt,
+        alloc,
+        26,
+        [1, 0, 24, 0],
+        b"a failed refused bad-depth\n",
+    )?;
+    check_field(
+        &rt,
+        alloc,
+        30,
+        [0xff, 0xff, 0xff, 0xff],
+        b"a failed refused compressed 4294967295\n",
+    )?;
+    check_field(
+        &rt,
+        alloc,
+        54,
+        [0, 0, 0xa5, 0],
+        b"a failed refused bad-masks\n",
+    )?;
+    // Without the last byte, and beyond the limit on sides, which is tested before.
+    check_bitmap(&rt, alloc, &ALPHA[..133], b"a failed refused truncated\n", 1)?;
+    check_field(
+        &rt,
+        alloc,
+        18,
+        [1, 0x40, 0, 0],
+        b"a failed refused too-large\n",
+    )?;
+    Ok(())
+}
+
 #[test]
 fn transforms(rt: HostRuntime) -> Result<(), Fail> {
     let alloc = rt.alloc();
@@ -518,10 +675,7 @@ fn check_plan(rt: &impl Abort, alloc: Global, rule: Rule, wanted: Plan) -> Resul
         config: Config::Alpha8,
         rule,
     };
-    match read_head(b"P6\n400 300\n255\n") {
-        Ok(head) => assert!(rt; plan_of(head, &key) == Ok(wanted)),
-        Err(_) => assert!(rt; false),
-    }
+    assert!(rt; plan_of((400, 300), &key) == Ok(wanted));
     Ok(())
 }
 
@@ -740,18 +894,6 @@ fn shown_views(rt: HostRuntime) -> Result<(), Fail> {
         0,
     )?;
     check_script(&rt, alloc, b"shown\n", b"glide: bad script line 1\n", 3, 0)?;
-    Ok(())
-}
-
-// The first example of FIPS 180-4.
-#[test]
-fn digests(rt: HostRuntime) -> Result<(), Fail> {
-    let mut out = MemorySink::new(7, Vec::new(rt.alloc()));
-    assert!(&rt; write_digest(&mut out, b"abc").is_ok());
-    assert_eq!(&rt;
-        out.written(),
-        b"ba7816bf8f01cfea414140de5dae2223b00361a396177a9cb410ff61f20015ad".as_slice()
-    );
     Ok(())
 }
 

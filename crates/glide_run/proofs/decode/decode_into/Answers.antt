@@ -1,5 +1,7 @@
 use Rattle.bitmap_kind.specs.Picture.{Picture}
 use Rattle.glide_run.specs.Pictures.{decoded_picture}
+use Rattle.glide_run.specs.CodeTypes.{refusal_by}
+use Rattle.glide_run.specs.PictureRows.{rows_by}
 use Rattle.glide_run.proofs.Decoding.{whole_decoded, rows_refused}
 use Rattle.glide_run.proofs.decode.decode_into.Goals as goal
 use Rattle.glide_run.proofs.decode.decode_into.Goals.{in-Ok-put_rows, in-Err}
@@ -7,12 +9,11 @@ use Rattle.glide_run.proofs.decode.decode_into.Goals.{in-Ok-put_rows, in-Err}
 pub returns-then-sample-eq1 : goal.returns-then-sample-eq1
 returns-then-sample-eq1 c =
     let old : Picture = c.args.bitmap.now.picture in
+    let rows = rows_by c.args.rows.now in
     elim c.match-put_rows.branch [
       | in-Ok-put_rows w ↦
           rw w.result-is
-          (whole_decoded c.args.head c.args.text.now c.new-rows.result c.args.sample old c.put_rows.new.bitmap.picture c.new-rows.ensures.rows c.if-sample-eq1.true c.requires.wide c.requires.high c.requires.size
+          (whole_decoded c.args.size rows c.args.sample old c.put_rows.new.bitmap.picture c.if-sample-eq1.true c.requires.wide c.requires.high c.requires.size
           w.in-Ok-put_rows.ensures.pixels w.in-Ok-put_rows.ensures.fills)
-      | in-Err w ↦
-          rw w.result-is
-          (rows_refused c.args.head c.args.text.now c.new-rows.result w.in-Err.fault (decoded_picture old.config c.args.sample) c.new-rows.ensures.rows w.in-Err.ensures.fills)
+      | in-Err w ↦ rw w.result-is (rows_refused c.args.size rows (refusal_by w.in-Err.refusal) (decoded_picture old.config c.args.sample) w.in-Err.ensures.fills)
     ]

@@ -1,17 +1,17 @@
 use Rattle.std.proofs.Common.{◌≡◌, Ok, sym, ap, ◌∙◌, rules}
-use Rattle.ppm_read.specs.Full.{full_picture_under}
 use Rattle.glide_run.specs.Pictures.{decoded_picture, picture_or_refusal}
 use Rattle.glide_run.specs.CodeTypes.{key_by}
+use Rattle.glide_run.specs.PictureRows.{rows_by, full_of}
 use Rattle.glide_run.proofs.Decoding.{shown_by}
 use Rattle.glide_run.proofs.decode.decode_planned.Goals as goal
 
 pub returns-in-Ok-transformed : goal.returns-in-Ok-transformed
 returns-in-Ok-transformed c =
-    let head = c.args.head in
+    let rows = rows_by c.args.rows.now in
     let plan = c.args.plan.now in
     let key = key_by c.args.key.now in
     let decoded = c.decode_into.new.bitmap.picture in
     let config : c.in-Ok.bitmap.picture.config ≡ plan.config = search rules in
-    let into : picture_or_refusal (decoded_picture plan.config plan.sample) (full_picture_under head c.args.text.now) ≡ Ok decoded =
-    ap (λ k. picture_or_refusal (decoded_picture k plan.sample) (full_picture_under head c.args.text.now)) (sym config) ∙ c.in-Ok-decode_into.ensures in
-    shown_by head c.args.text.now plan key decoded c.requires.plan into ∙ ap Ok (sym c.in-Ok-transformed.ensures)
+    let into : picture_or_refusal (decoded_picture plan.config plan.sample) (full_of c.args.size rows) ≡ Ok decoded =
+    ap (λ k. picture_or_refusal (decoded_picture k plan.sample) (full_of c.args.size rows)) (sym config) ∙ c.in-Ok-decode_into.ensures in
+    shown_by c.args.size rows plan key decoded c.requires.plan into ∙ ap Ok (sym c.in-Ok-transformed.ensures)

@@ -10,7 +10,7 @@ use Rattle.glide_run.proofs.plan.plan_of.Goals as goal
 pub returns : goal.returns
 returns c =
     let key : Key = key_by c.args.key.now in
-    let source : ℕ × ℕ = (c.args.head.width, c.args.head.height) in
+    let source : ℕ × ℕ = c.args.source in
     let plan : Plan = record { sample = c.sample_for-sample.result; decoded = (c.sampled_side.result, c.sampled_side-2.result); target = c.target_size-target.result; config = key.config } in
     let few : has_too_many_pixels source ≡ false = sym c.has_too_many_pixels.ensures ∙ c.if-has_too_many_pixels.false in
     let few_shown : has_too_many_pixels plan.target ≡ false = sym c.has_too_many_pixels-2.ensures ∙ c.if-has_too_many_pixels-2.false in

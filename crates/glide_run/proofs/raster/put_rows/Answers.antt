@@ -1,6 +1,6 @@
 use Rattle.std.proofs.Common.{◌+◌, ◌*◌, length, mul_comm, sym, ap, subst, ◌∙◌, Ok, arith, List, ℕ}
 use Rattle.bitmap_kind.specs.Picture.{BitmapValue}
-use Rattle.ppm_read.specs.Raster.{RowStep}
+use Rattle.glide_run.specs.PictureRows.{rows_by, RowStep}
 use Rattle.glide_run.specs.Filled.{IsFilled}
 use Rattle.glide_run.proofs.Filling.{next_rest, rows_done, fills, keeps_twice}
 use Rattle.glide_run.proofs.raster.put_rows.Goals as goal
@@ -9,8 +9,8 @@ pub rows-preserved : goal.rows-preserved
 rows-preserved c =
     let before = c.rows.invariant in
     let into = c.next_row.new.into in
-    let step = subst (λ b. RowStep c.rows.rows (Ok b) into c.next_row.new.self) c.in-Ok-true.field-0-test c.in-Ok-true.ensures.step in
-    let next = next_rest c.args.rows.now c.rows.rows c.next_row.new.self c.rows.y into before.left step in
+    let step = subst (λ b. RowStep (rows_by c.rows.rows) (Ok b) into (rows_by c.next_row.new.self)) c.in-Ok-true.field-0-test c.in-Ok-true.ensures.step in
+    let next = next_rest (rows_by c.args.rows.now) (rows_by c.rows.rows) (rows_by c.next_row.new.self) c.rows.y into before.left step in
     record {
       left = next.0;
       below = omega (arith, next.1);
@@ -23,8 +23,8 @@ pub returns-in-Ok-false-clause-pixels : goal.returns-in-Ok-false-clause-pixels
 returns-in-Ok-false-clause-pixels c =
     let before = c.rows.invariant in
     let old = c.args.bitmap.now.picture in
-    let step = subst (λ b. RowStep c.rows.rows (Ok b) c.next_row.new.into c.next_row.new.self) c.in-Ok-false.field-0-test c.in-Ok-false.ensures.step in
-    let done = rows_done old.height c.rows.y c.args.rows.now c.rows.rows c.requires.count before.left before.below step.0 step.1 in
+    let step = subst (λ b. RowStep (rows_by c.rows.rows) (Ok b) c.next_row.new.into (rows_by c.next_row.new.self)) c.in-Ok-false.field-0-test c.in-Ok-false.ensures.step in
+    let done = rows_done old.height c.rows.y (rows_by c.args.rows.now) (rows_by c.rows.rows) c.requires.count before.left before.below step.0 step.1 in
     ap length (sym done.2)
     ∙ before.filled.size
     ∙ ap (λ n. 4 * (n * c.rows.bitmap.picture.width)) done.1
@@ -34,6 +34,6 @@ returns-in-Ok-false-clause-pixels c =
 pub returns-in-Ok-false-clause-fills : goal.returns-in-Ok-false-clause-fills
 returns-in-Ok-false-clause-fills c =
     let before = c.rows.invariant in
-    let step = subst (λ b. RowStep c.rows.rows (Ok b) c.next_row.new.into c.next_row.new.self) c.in-Ok-false.field-0-test c.in-Ok-false.ensures.step in
-    let done = rows_done c.args.bitmap.now.picture.height c.rows.y c.args.rows.now c.rows.rows c.requires.count before.left before.below step.0 step.1 in
+    let step = subst (λ b. RowStep (rows_by c.rows.rows) (Ok b) c.next_row.new.into (rows_by c.next_row.new.self)) c.in-Ok-false.field-0-test c.in-Ok-false.ensures.step in
+    let done = rows_done c.args.bitmap.now.picture.height c.rows.y (rows_by c.args.rows.now) (rows_by c.rows.rows) c.requires.count before.left before.below step.0 step.1 in
     (done.0, fills c.args.bitmap.now c.rows.bitmap c.rows.y _ _ before.shape before.filled (done.1 ∙ sym (ap (λ (v : BitmapValue). v.picture.height) before.shape)) done.2)

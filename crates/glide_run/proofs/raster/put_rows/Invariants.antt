@@ -1,17 +1,18 @@
 use Rattle.std.proofs.Common.{◌≡◌, ◌≤◌, ◌*◌, length, take}
 use Rattle.std.specs.List.{concat}
+use Rattle.glide_run.specs.PictureRows.{rows_by}
 use Rattle.glide_run.specs.Filled.{IsFilled, KeepsShape}
 use Rattle.glide_run.proofs.Filling.{rest_of}
 use Rattle.glide_run.proofs.raster.put_rows.Given as goal
 
 abbrev pub invariant-rows : goal.invariant-rows
 invariant-rows l = record {
-  left : l.rows ≡ rest_of l.fn.rows l.y;
-  below : l.y ≤ length l.fn.rows.rows;
+  left : rows_by l.rows ≡ rest_of (rows_by l.fn.rows) l.y;
+  below : l.y ≤ length (rows_by l.fn.rows).rows;
   shape : KeepsShape l.fn.bitmap l.bitmap;
-  filled : IsFilled l.bitmap.picture l.y (concat (take l.y l.fn.rows.rows));
+  filled : IsFilled l.bitmap.picture l.y (concat (take l.y (rows_by l.fn.rows).rows));
   row : length l.row ≡ 4 * l.fn.bitmap.picture.width;
 }
 
 abbrev pub decreases-rows : goal.decreases-rows
-decreases-rows l = length l.rows.rows
+decreases-rows l = length (rows_by l.rows).rows

@@ -2,9 +2,9 @@ use Rattle.std.proofs.Common.{◌≡◌, ℕ, ◌+◌, ◌++◌, List, take, dro
 use Rattle.std.specs.List.{concat}
 use Rattle.std.proofs.lemmas.List.{take-append-drop}
 use Rattle.std.proofs.lemmas.List.Folds.{concat-append}
-use Rattle.ppm_read.specs.Raster.{RowStep}
 use Rattle.sampling.specs.BoxValue.{BoxValue}
 use Rattle.sampling.specs.Sampled.{sampled_side, sampled_picture}
+use Rattle.glide_run.specs.PictureRows.{rows_by, RowStep}
 use Rattle.glide_run.specs.Filled.{IsSampled}
 use Rattle.glide_run.proofs.Filling.{rest_of, next_rest, rows_done, fills, keeps_twice, few_rows}
 use Rattle.glide_run.proofs.SampledRows.{sampled_none, first_rows}
@@ -12,7 +12,7 @@ use Rattle.glide_run.proofs.raster.put_sampled_rows.Goals as goal
 
 pub rows-init : goal.rows-init
 rows-init c =
-    let all = c.args.rows.now in
+    let all = rows_by c.args.rows.now in
     let fresh = c.requires.fresh in
     let boxes = c.args.boxes.now in
     let picture = c.args.bitmap.now.picture in
@@ -30,11 +30,11 @@ rows-init c =
 pub overflow_add-y : goal.overflow_add-y
 overflow_add-y c =
     let before = c.rows.invariant in
-    let all = c.args.rows.now in
+    let all = rows_by c.args.rows.now in
     let into = c.next_row.new.into in
     let put = c.put_sampled_row-y in
-    let step = subst (λ b. RowStep c.rows.rows (Ok b) into c.next_row.new.self) c.in-Ok-true.field-0-test c.in-Ok-true.ensures.step in
-    let next = next_rest all c.rows.rows c.next_row.new.self c.rows.boxes.pushed into before.left step in
+    let step = subst (λ b. RowStep (rows_by c.rows.rows) (Ok b) into (rows_by c.next_row.new.self)) c.in-Ok-true.field-0-test c.in-Ok-true.ensures.step in
+    let next = next_rest all (rows_by c.rows.rows) (rows_by c.next_row.new.self) c.rows.boxes.pushed into before.left step in
     let sampled = put.ensures.sampled (concat (take c.rows.boxes.pushed all.rows)) (concat (drop (c.rows.boxes.pushed + 1) all.rows))
     (subst (λ (l : List ℕ). IsSampled c.rows.boxes c.rows.bitmap.picture (concat (take c.rows.boxes.pushed all.rows)) l) next.3 before.sampled) in
     let given = ap (λ (b : BoxValue). b.given) put.ensures.pushes in
@@ -44,11 +44,11 @@ overflow_add-y c =
 pub rows-preserved : goal.rows-preserved
 rows-preserved c =
     let before = c.rows.invariant in
-    let all = c.args.rows.now in
+    let all = rows_by c.args.rows.now in
     let into = c.next_row.new.into in
     let put = c.put_sampled_row-y in
-    let step = subst (λ b. RowStep c.rows.rows (Ok b) into c.next_row.new.self) c.in-Ok-true.field-0-test c.in-Ok-true.ensures.step in
-    let next = next_rest all c.rows.rows c.next_row.new.self c.rows.boxes.pushed into before.left step in
+    let step = subst (λ b. RowStep (rows_by c.rows.rows) (Ok b) into (rows_by c.next_row.new.self)) c.in-Ok-true.field-0-test c.in-Ok-true.ensures.step in
+    let next = next_rest all (rows_by c.rows.rows) (rows_by c.next_row.new.self) c.rows.boxes.pushed into before.left step in
     let sampled = put.ensures.sampled (concat (take c.rows.boxes.pushed all.rows)) (concat (drop (c.rows.boxes.pushed + 1) all.rows))
     (subst (λ (l : List ℕ). IsSampled c.rows.boxes c.rows.bitmap.picture (concat (take c.rows.boxes.pushed all.rows)) l) next.3 before.sampled) in
     let pushes = put.ensures.pushes in
@@ -71,11 +71,11 @@ rows-preserved c =
 pub returns-in-Ok-false : goal.returns-in-Ok-false
 returns-in-Ok-false c =
     let before = c.rows.invariant in
-    let all = c.args.rows.now in
+    let all = rows_by c.args.rows.now in
     let boxes = c.rows.boxes in
     let n = c.rows.boxes.pushed in
-    let step = subst (λ b. RowStep c.rows.rows (Ok b) c.next_row.new.into c.next_row.new.self) c.in-Ok-false.field-0-test c.in-Ok-false.ensures.step in
-    let done = rows_done c.args.boxes.now.height n all c.rows.rows c.requires.count before.left before.below step.0 step.1 in
+    let step = subst (λ b. RowStep (rows_by c.rows.rows) (Ok b) c.next_row.new.into (rows_by c.next_row.new.self)) c.in-Ok-false.field-0-test c.in-Ok-false.ensures.step in
+    let done = rows_done c.args.boxes.now.height n all (rows_by c.rows.rows) c.requires.count before.left before.below step.0 step.1 in
     let wide : boxes.width ≡ c.args.boxes.now.width = ap (λ (b : BoxValue). b.width) before.boxes in
     let high : boxes.height ≡ c.args.boxes.now.height = ap (λ (b : BoxValue). b.height) before.boxes in
     let sample : boxes.sample ≡ c.args.boxes.now.sample = ap (λ (b : BoxValue). b.sample) before.boxes in
