@@ -16,4 +16,4 @@ pub mod Scripts
 pub mod Realize
 pub mod Ends
 pub mod Undisturbed
-pub mod Rows
+pub mod WorkedViews

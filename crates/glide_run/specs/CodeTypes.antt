@@ -1,4 +1,4 @@
--- The code's types, as the definitions see them. What moves to another crate moves here alone.
+-- The code's types, as the definitions see them. It is this project's own. What moves to another crate moves here alone.
 use Rattle.std.specs.Prelude.{List, map, ⊤, Ok, Err, Result, ◌≡◌}
 use Rattle.bitmap_kind.specs.Picture.{Picture, BitmapValue}
 use Rattle.glide_run.specs.declared.causes.Refusal as code_refusal
@@ -21,12 +21,14 @@ use Rattle.glide_run.specs.Pictures.{Refusal, Unknown, TooLarge, ppm_refusal, bm
 use Rattle.glide_run.specs.Views.{Cause, Missing, Refused, Source, Memory, Uncached, State, Running, Complete, Failed, Seen}
 use Rattle.glide_run.specs.Printed.{Form, Pixels, Digest}
 
+-- each of these maps one of the code's types: a refusal
 abbrev pub refusal_by : code_refusal.Refusal → Refusal
 refusal_by refusals.Unknown = Unknown
 refusal_by (refusals.Ppm fault) = ppm_refusal fault
 refusal_by (refusals.Bmp fault) = bmp_refusal fault
 refusal_by refusals.TooLarge = TooLarge
 
+-- a cause
 abbrev pub cause_by : code_cause.Cause → Cause
 cause_by causes.Missing = Missing
 cause_by (causes.Refused refusal) = Refused (refusal_by refusal)
@@ -34,13 +36,16 @@ cause_by causes.Source = Source
 cause_by causes.Memory = Memory
 cause_by causes.Uncached = Uncached
 
+-- a key, whose texts are lists of bytes
 abbrev pub key_by : EngineKey → Key
 key_by key = record { url = key.url; sig = key.sig; width = key.width; height = key.height; transform = key.transform; config = key.config; rule = key.rule }
 
+-- the key of a request, whose texts are borrowed from a line
 abbrev pub request_key : Request → Key
 request_key request =
     record { url = request.url.now; sig = request.sig.now; width = request.width; height = request.height; transform = request.transform; config = request.config; rule = request.rule }
 
+-- a command
 abbrev pub command_by : code_command.Command → Command
 command_by commands.Nothing = Nothing
 command_by commands.Bad = Bad
@@ -48,17 +53,21 @@ command_by (commands.Load request) = Load request.view.now (request_key request)
 command_by (commands.Dump view) = Dump view.now
 command_by commands.Show = Show
 
+-- a state, in which a bitmap is its picture
 abbrev pub state_by : ViewState → State ⊤
 state_by states.Running = Running tt
 state_by (states.Complete bitmap) = Complete bitmap.picture
 state_by (states.Failed cause) = Failed (cause_by cause)
 
+-- a view
 abbrev pub view_by : code_view.View → Seen
 view_by view = record { name = view.name; key = key_by view.key; state = state_by view.state }
 
+-- views in their order
 abbrev pub views_by : List code_view.View → List Seen
 views_by views = map view_by views
 
+-- the form of a line
 abbrev pub form_by : code_form.Form → Form
 form_by forms.Pixels = Pixels
 form_by forms.Digest = Digest

@@ -1,4 +1,4 @@
--- Bitmaps that are filled row by row, from the top.
+-- Bitmaps that are filled row by row, from the top. It is this project's own, and only this crate's calls say it.
 use Rattle.std.specs.Prelude.{◌≡◌, ℕ, ◌+◌, ◌*◌, ◌≤◌, false, List, [], ◌++◌, length, take, Ok, Err, Some, None, Result}
 use Rattle.std.specs.List.{flat_map, range_with_len}
 use Rattle.bitmap_kind.specs.Stored.{pixel_bytes, stored}

@@ -1,4 +1,4 @@
--- The rows of a picture of either kind that are left while it is read.
+-- The rows of a picture of either kind that are left while it is read. It is this project's own, in the words of the two readers.
 use Rattle.std.specs.Prelude.{◌≡◌, ℕ, ◌<◌, ◌⊎◌, ⊤, Bool, true, false, List, [], ◌∷◌, length, Ok, Err, Some, None, IsSome, Result}
 use Rattle.std.specs.List.{concat}
 use Rattle.std.specs.Option.{option_map}
@@ -18,16 +18,20 @@ pub record RowsLeft : Type 0 where
   pub rows : List (List ℕ)
   pub refusal : Option Refusal
 
+-- those of a Netpbm text
 abbrev pub ppm_rows : ppm_raster.RowsLeft → RowsLeft
 ppm_rows left = record { width = left.width; rows = left.rows; refusal = option_map ppm_refusal left.fault }
 
+-- those of a Windows bitmap
 abbrev pub bmp_rows : bmp_raster.RowsLeft → RowsLeft
 bmp_rows left = record { width = left.width; rows = left.rows; refusal = option_map bmp_refusal left.fault }
 
+-- those of either reader
 abbrev pub rows_by : PictureRows → RowsLeft
 rows_by (kinds.Ppm left) = ppm_rows left
 rows_by (kinds.Bmp left) = bmp_rows left
 
+-- a row above those that are left
 abbrev pub with_row : List ℕ → RowsLeft → RowsLeft
 with_row row left = record left { rows = row ∷ left.rows }
 

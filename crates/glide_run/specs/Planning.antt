@@ -1,4 +1,4 @@
--- How a picture is decoded under a key: the plan that the code makes from a header, before it looks at the raster.
+-- How a picture is decoded under a key: the plan that the code makes from a header, before it looks at the raster. It is this project's own.
 use Rattle.std.specs.Prelude.{◌≡◌, ℕ, ◌≤◌, true, false, Ok, Err, Result}
 use Rattle.bitmap_kind.specs.Picture.{IsSize}
 use Rattle.sampling.specs.Sample.{sample_of}

@@ -10,6 +10,7 @@ use Rattle.bitmap_kind.specs.Picture.{Picture}
 use Rattle.glide_run.specs.Pictures.{Refusal, Unknown, BadNumber, BadSize, BadMaximum, SampleAbove, Truncated, BadHeader, Compressed, BadDepth, BadMasks, TooLarge}
 use Rattle.glide_run.specs.Views.{Cause, Missing, Refused, Source, Memory, Uncached, State, Running, Complete, Failed, Seen}
 
+-- why a text has no picture
 abbrev pub refusal_text : Refusal → List ℕ
 refusal_text Unknown = codes "unknown"
 refusal_text BadNumber = codes "bad-number"
@@ -23,6 +24,7 @@ refusal_text BadDepth = codes "bad-depth"
 refusal_text BadMasks = codes "bad-masks"
 refusal_text TooLarge = codes "too-large"
 
+-- why a view failed
 abbrev pub cause_text : Cause → List ℕ
 cause_text Missing = codes "missing"
 cause_text (Refused refusal) = codes "refused " ++ refusal_text refusal
@@ -40,9 +42,11 @@ pub record PrintedLine : Type 0 where
   pub form : Form
   pub view : Seen
 
+-- a view's line in this form
 abbrev pub line_as : Form → Seen → PrintedLine
 line_as form view = record { form = form; view = view }
 
+-- the lines of views in this form
 abbrev pub lines_as : Form → List Seen → List PrintedLine
 lines_as form views = map (line_as form) views
 
@@ -74,13 +78,16 @@ state_picture form (Running note) = []
 state_picture form (Complete picture) = encode_lower (picture_bytes form picture)
 state_picture form (Failed cause) = []
 
+-- a whole line: the view's name, what is said of it, and a line feed
 abbrev pub line_text : PrintedLine → List ℕ
 line_text line = line.view.name ++ 32 ∷ state_head line.form line.view.state ++ state_picture line.form line.view.state ++ 10 ∷ []
 
+-- lines one behind the other
 abbrev pub lines_text : List PrintedLine → List ℕ
 lines_text [] = []
 lines_text (line ∷ lines) = line_text line ++ lines_text lines
 
+-- the line that names a bad line of the script
 abbrev pub bad_line_text : ℕ → List ℕ
 bad_line_text number = codes "glide: bad script line " ++ decimal number ++ 10 ∷ []
 
@@ -89,14 +96,17 @@ abbrev pub run_text : List PrintedLine → Option ℕ → List ℕ
 run_text lines None = lines_text lines
 run_text lines (Some number) = lines_text lines ++ bad_line_text number
 
+-- whether a state is a failure
 abbrev pub has_failed : {N : Type 0} → State N → Bool
 has_failed (Running note) = false
 has_failed (Complete picture) = false
 has_failed (Failed cause) = true
 
+-- a line `VIEW failed ..`
 abbrev pub says_failed : PrintedLine → Bool
 says_failed line = has_failed line.view.state
 
+-- a failure that the source is the cause of
 abbrev pub blames_source : {N : Type 0} → State N → Bool
 blames_source (Running note) = false
 blames_source (Complete picture) = false

@@ -8,7 +8,7 @@ use Rattle.ppm_read.specs.Header.{size_at, maximum_at, head_of}
 use Rattle.ppm_read.specs.Raster.{pixels_at}
 use Rattle.glide_run.specs.Script.{commands}
 use Rattle.glide_run.specs.Printed.{Pixels}
-use Rattle.glide_run.proofs.Rows.{red, printed}
+use Rattle.glide_run.proofs.WorkedViews.{red, printed}
 use Rattle.glide_run.proofs.worked.worked_refusals.Goals as goal
 
 pub returns-clause-unknown : goal.returns-clause-unknown
