@@ -1,5 +1,5 @@
 -- The picture of rows that are read.
-use Rattle.std.proofs.Common.{◌≡◌, ℕ, ◌*◌, ◌≤◌, List, length, None, Some, Ok, Err, sym, ap, ◌∙◌}
+use Rattle.std.proofs.Common.{◌≡◌, ℕ, ◌*◌, ◌≤◌, length, None, Some, Ok, Err, sym, ap, ◌∙◌}
 use Rattle.std.specs.List.{concat}
 use Rattle.std.specs.declared.option.Option.{Option}
 use Rattle.bitmap_kind.specs.Stored.{stored}

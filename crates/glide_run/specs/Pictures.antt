@@ -1,4 +1,4 @@
--- The picture that is shown for a text, or why there is none.
+-- The picture that is shown for a text, or why there is none. That a picture is sampled by its size and the wanted one, stored in a config and then transformed, is Glide's (Downsampler and its transformations); which text is of which kind, the limits, and the order of refusals are this project's own.
 use Rattle.std.specs.Prelude.{ℕ, ◌*◌, Bool, ◌||◌, nat_lt, nat_eq, List, if◌then◌else◌, Ok, Err, Result, codes}
 use Rattle.std.specs.List.{starts_with}
 use Rattle.bitmap_kind.specs.declared.bitmaps.Config.{Config}
@@ -35,6 +35,7 @@ pub data Refusal : Type 0 where
   BadMasks : Refusal
   TooLarge : Refusal
 
+-- what a fault of a Netpbm text is called
 abbrev pub ppm_refusal : PpmFault → Refusal
 ppm_refusal ppm_faults.BadMagic = Unknown
 ppm_refusal ppm_faults.BadNumber = BadNumber
@@ -43,6 +44,7 @@ ppm_refusal ppm_faults.BadMaximum = BadMaximum
 ppm_refusal ppm_faults.SampleAbove = SampleAbove
 ppm_refusal ppm_faults.Truncated = Truncated
 
+-- what a fault of a Windows bitmap is called
 abbrev pub bmp_refusal : BmpFault → Refusal
 bmp_refusal bmp_faults.BadMagic = Unknown
 bmp_refusal bmp_faults.BadHeader = BadHeader
@@ -54,10 +56,12 @@ bmp_refusal bmp_faults.Truncated = Truncated
 
 -- ---- the full pictures: those of both kinds have a size, and red, green, blue and alpha of each pixel from the top row
 
+-- that of a Netpbm text
 abbrev pub ppm_picture : Result FullPicture PpmFault → Result FullPicture Refusal
 ppm_picture (Ok full) = Ok full
 ppm_picture (Err fault) = Err (ppm_refusal fault)
 
+-- that of a Windows bitmap
 abbrev pub bmp_picture : Result bmp_full.FullPicture BmpFault → Result FullPicture Refusal
 bmp_picture (Ok full) = Ok record { width = full.width; height = full.height; pixels = full.pixels }
 bmp_picture (Err fault) = Err (bmp_refusal fault)
@@ -110,16 +114,16 @@ abbrev pub picture_or_refusal : (FullPicture → Picture) → Result FullPicture
 picture_or_refusal shown (Ok full) = Ok (shown full)
 picture_or_refusal shown (Err refusal) = Err refusal
 
--- of a source of this size, as its header says, whose raster gives this full picture or refusal
+-- what is shown of a source whose header says this size, and whose raster gives this full picture or refusal
 abbrev pub picture_under : Key → ℕ × ℕ → Result FullPicture Refusal → Result Picture Refusal
 picture_under key source full = if is_too_large source key then Err TooLarge else picture_or_refusal (shown_picture key) full
 
--- of a Netpbm text with this header, or header's fault
+-- what is shown of a Netpbm text with this header, or with this fault in it
 abbrev pub ppm_picture_of : List ℕ → Key → Result ppm_head.Head PpmFault → Result Picture Refusal
 ppm_picture_of text key (Ok head) = picture_under key (head.width, head.height) (ppm_picture (ppm_full.full_picture_under head text))
 ppm_picture_of text key (Err fault) = Err (ppm_refusal fault)
 
--- of a Windows bitmap with this header, or header's fault
+-- what is shown of a Windows bitmap with this header, or with this fault in it
 abbrev pub bmp_picture_of : List ℕ → Key → Result bmp_head.Head BmpFault → Result Picture Refusal
 bmp_picture_of text key (Ok head) = picture_under key (head.width, head.height) (bmp_picture (bmp_full.full_picture_under head text))
 bmp_picture_of text key (Err fault) = Err (bmp_refusal fault)

@@ -21,7 +21,11 @@ fn put_row(bitmap: &mut Bitmap, y: u32, row: &[u8])
 }
 
 /// Puts rows into a bitmap of their size. The row's buffer is overwritten.
-pub fn put_rows(rows: &mut PictureRows<'_>, row: &mut [u8], bitmap: &mut Bitmap) -> Result<(), Refusal>
+pub fn put_rows(
+    rows: &mut PictureRows<'_>,
+    row: &mut [u8],
+    bitmap: &mut Bitmap,
+) -> Result<(), Refusal>
     requires bitmap { IsBitmap bitmap.old.picture }
     requires width { (rows_by rows.old).width ≡ bitmap.old.picture.width }
     requires count { HasRows bitmap.old.picture.height (rows_by rows.old) }

@@ -161,13 +161,7 @@ fn pictures(rt: HostRuntime) -> Result<(), Fail> {
         b"a failed refused truncated\n",
         1,
     )?;
-    check_red(
-        &rt,
-        alloc,
-        b"P5\n1 1\n255\n\x07",
-        b"a pixels 070707ff\n",
-        0,
-    )?;
+    check_red(&rt, alloc, b"P5\n1 1\n255\n\x07", b"a pixels 070707ff\n", 0)?;
     check_red(&rt, alloc, b"hello", b"a failed refused unknown\n", 1)?;
     Ok(())
 }
@@ -532,7 +526,13 @@ fn broken_bmp_rules(rt: HostRuntime) -> Result<(), Fail> {
         b"a failed refused bad-masks\n",
     )?;
     // Without the last byte, and beyond the limit on sides, which is tested before.
-    check_bitmap(&rt, alloc, &ALPHA[..133], b"a failed refused truncated\n", 1)?;
+    check_bitmap(
+        &rt,
+        alloc,
+        &ALPHA[..133],
+        b"a failed refused truncated\n",
+        1,
+    )?;
     check_field(
         &rt,
         alloc,

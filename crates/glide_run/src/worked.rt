@@ -1,5 +1,7 @@
 // The walk itself on worked scripts: these contracts are proved by computing the definitions, and no code is run.
-ghost use Rattle.std.specs.Prelude.{◌≡◌, ◌∷◌, ◌++◌, [], codes, true, None};
+ghost use Rattle.std.specs.Prelude.{◌≡◌, ◌∷◌, ◌++◌, [], codes, replicate, true, None};
+ghost use Rattle.std.specs.Int.{w32, to_le_bytes};
+ghost use Rattle.std.specs.List.{flat_map};
 ghost use Rattle.std.specs.FinMap.{get};
 ghost use Rattle.outside.specs.Content.{Contents};
 ghost use Rattle.glide_run.specs.Script.{commands};
@@ -15,6 +17,15 @@ fn worked_pictures()
     ensures at_most { Dumps (codes "P2 4 1 255 1 2 3 4") (codes "load a red 1 2 1 none argb atmost") (codes "a pixels 020202ff040404ff") }
     ensures fit { Dumps (codes "P2 3 2 255 1 2 3 4 5 6") (codes "load a red 1 2 2 fit argb") (codes "a pixels 040404ff060606ff") }
     ensures crop { Dumps (codes "P2 4 1 255 1 2 3 4") (codes "load a red 1 2 1 crop argb") (codes "a pixels 020202ff030303ff") }
+{}
+
+// A Windows bitmap of 3 by -1 pixels of 32 bits by masks: black, of the alphas 97, 98 and 99, which are `abc`. Behind `BM` its
+// text is fields of four bytes, with 52 bytes of 0 before the pixels.
+fn worked_bitmap()
+    ensures { Shows (codes "BM" ++ flat_map (to_le_bytes w32)
+        (134 ∷ 0 ∷ 122 ∷ 108 ∷ 3 ∷ 0xffff_ffff ∷ 0x0020_0001 ∷ 3 ∷ 12 ∷ 0 ∷ 0 ∷ 0 ∷ 0 ∷ 0x00ff_0000 ∷ 0x0000_ff00 ∷ 0x0000_00ff ∷ 0xff00_0000 ∷ [])
+        ++ replicate 52 0 ++ flat_map (to_le_bytes w32) (0x6100_0000 ∷ 0x6200_0000 ∷ 0x6300_0000 ∷ []))
+        (codes "load a red 1 3 1 none alpha") (codes "a shown 3 1 alpha ba7816bf8f01cfea414140de5dae2223b00361a396177a9cb410ff61f20015ad") }
 {}
 
 // Why a text has no picture.
