@@ -14,11 +14,12 @@ use Rattle.glide_run.specs.Views.{State, Running, Complete, Failed, Seen, names_
 use Rattle.glide_run.specs.Effects.{Gains}
 use Rattle.glide_run.specs.Run.{SettlesAt, Settles, Gathers, running_at, running_in}
 use Rattle.bitmap_kind.specs.Picture.{Picture}
-use Rattle.glide_run.specs.declared.causes.Refusal as code_refusal
-use Rattle.glide_run.specs.declared.decode.DecodeFault.{DecodeFault}
-use Rattle.glide_run.specs.declared.decode.DecodeFault.TheVariants as decode_faults
-use Rattle.glide_run.specs.Pictures.{Refusal}
-use Rattle.glide_run.specs.CodeTypes.{refusal_by, view_by, views_by, Decodes}
+use Rattle.image_format.specs.declared.refusal.Refusal as code_refusal
+use Rattle.image_format.specs.declared.decoder.DecodeFault.{DecodeFault}
+use Rattle.image_format.specs.declared.decoder.DecodeFault.TheVariants as decode_faults
+use Rattle.image_format.specs.Pictures.{Refusal}
+use Rattle.image_format.specs.CodeTypes.{refusal_by, Decodes}
+use Rattle.glide_run.specs.CodeTypes.{view_by, views_by}
 
 -- ---- failed fetches
 

@@ -5,12 +5,6 @@ pub mod Putting
 pub mod Gathers
 pub mod Shown
 pub mod Writing
-pub mod Filling
-pub mod SampledRows
-pub mod Planned
-pub mod UnderOne
-pub mod Kept
-pub mod Decoding
 pub mod Obeys
 pub mod Scripts
 pub mod Realize

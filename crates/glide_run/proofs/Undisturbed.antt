@@ -6,7 +6,8 @@ use Rattle.std.specs.Str.{bytes_eq}
 use Rattle.std.specs.Io.KnownBytes.{Appends}
 use Rattle.std.proofs.lemmas.Slice.Eq.{bytes_eq-Decides}
 use Rattle.outside.specs.Content.{Address, Contents}
-use Rattle.glide_run.specs.Script.{Key, Command, Nothing, Bad, Load, Dump, Show}
+use Rattle.cache_key.specs.Key.{Key}
+use Rattle.glide_run.specs.Script.{Command, Nothing, Bad, Load, Dump, Show}
 use Rattle.glide_run.specs.Views.{Running, View, seen, address_of, names_of, has_name, can_name, named, put_view}
 use Rattle.glide_run.specs.Printed.{Pixels, Digest, lines_as, run_text}
 use Rattle.glide_run.specs.Walk.{bad_line, first_mark, other_marks, gathered, walk, output, status_of, same_address, marked_begins, same_begin, distinct, begins_at}

@@ -4,7 +4,7 @@ use Rattle.std.specs.declared.option.Option.{Option}
 use Rattle.bitmap_kind.specs.declared.bitmaps.Config.{Config}
 use Rattle.bitmap_kind.specs.declared.bitmaps.Transform.{Transform}
 use Rattle.bitmap_kind.specs.declared.bitmaps.Rule.{Rule}
-use Rattle.glide_run.specs.Script.{Key}
+use Rattle.cache_key.specs.Key.{Key}
 use Rattle.glide_run.specs.Views.{seen, fetched}
 use Rattle.glide_run.specs.Printed.{Form, line_as, lines_text}
 

@@ -1,44 +1,28 @@
 -- The code's types, as the definitions see them. It is this project's own. What moves to another crate moves here alone.
-use Rattle.std.specs.Prelude.{List, map, ⊤, Ok, Err, Result, ◌≡◌}
-use Rattle.bitmap_kind.specs.Picture.{Picture, BitmapValue}
-use Rattle.glide_run.specs.declared.causes.Refusal as code_refusal
-use Rattle.glide_run.specs.declared.causes.Refusal.TheVariants as refusals
+use Rattle.std.specs.Prelude.{List, map, ⊤}
+use Rattle.cache_key.specs.Key.{Key, key_by}
+use Rattle.image_format.specs.CodeTypes.{refusal_by}
 use Rattle.glide_run.specs.declared.causes.Cause as code_cause
 use Rattle.glide_run.specs.declared.causes.Cause.TheVariants as causes
-use Rattle.glide_run.specs.declared.decode.DecodeFault.{DecodeFault}
-use Rattle.glide_run.specs.declared.decode.DecodeFault.TheVariants as faults
 use Rattle.glide_run.specs.declared.requests.Request.{Request}
 use Rattle.glide_run.specs.declared.script.Command as code_command
 use Rattle.glide_run.specs.declared.script.Command.TheVariants as commands
-use Rattle.glide_run.specs.declared.keys.EngineKey.{EngineKey}
 use Rattle.glide_run.specs.declared.views.ViewState.{ViewState}
 use Rattle.glide_run.specs.declared.views.ViewState.TheVariants as states
 use Rattle.glide_run.specs.declared.views.View as code_view
 use Rattle.glide_run.specs.declared.printing.Form as code_form
 use Rattle.glide_run.specs.declared.printing.Form.TheVariants as forms
-use Rattle.glide_run.specs.Script.{Key, Command, Nothing, Bad, Load, Dump, Show}
-use Rattle.glide_run.specs.Pictures.{Refusal, Unknown, TooLarge, ppm_refusal, bmp_refusal}
+use Rattle.glide_run.specs.Script.{Command, Nothing, Bad, Load, Dump, Show}
 use Rattle.glide_run.specs.Views.{Cause, Missing, Refused, Source, Memory, Uncached, State, Running, Complete, Failed, Seen}
 use Rattle.glide_run.specs.Printed.{Form, Pixels, Digest}
 
--- each of these maps one of the code's types: a refusal
-abbrev pub refusal_by : code_refusal.Refusal → Refusal
-refusal_by refusals.Unknown = Unknown
-refusal_by (refusals.Ppm fault) = ppm_refusal fault
-refusal_by (refusals.Bmp fault) = bmp_refusal fault
-refusal_by refusals.TooLarge = TooLarge
-
--- a cause
+-- each of these maps one of the code's types: a cause
 abbrev pub cause_by : code_cause.Cause → Cause
 cause_by causes.Missing = Missing
 cause_by (causes.Refused refusal) = Refused (refusal_by refusal)
 cause_by causes.Source = Source
 cause_by causes.Memory = Memory
 cause_by causes.Uncached = Uncached
-
--- a key, whose texts are lists of bytes
-abbrev pub key_by : EngineKey → Key
-key_by key = record { url = key.url; sig = key.sig; width = key.width; height = key.height; transform = key.transform; config = key.config; rule = key.rule }
 
 -- the key of a request, whose texts are borrowed from a line
 abbrev pub request_key : Request → Key
@@ -71,15 +55,3 @@ views_by views = map view_by views
 abbrev pub form_by : code_form.Form → Form
 form_by forms.Pixels = Pixels
 form_by forms.Digest = Digest
-
--- What was decoded is this picture, or this refusal comes, unless memory is wanting.
-abbrev pub Decodes : Result BitmapValue DecodeFault → Result Picture Refusal → Type 0
-Decodes (Ok bitmap) picture = picture ≡ Ok bitmap.picture
-Decodes (Err faults.Memory) picture = ⊤
-Decodes (Err (faults.Refused refusal)) picture = picture ≡ Err (refusal_by refusal)
-
--- The same of a bitmap that was decoded into.
-abbrev pub DecodesInto : {A : Type 0} → Result A DecodeFault → BitmapValue → Result Picture Refusal → Type 0
-DecodesInto (Ok done) bitmap picture = picture ≡ Ok bitmap.picture
-DecodesInto (Err faults.Memory) bitmap picture = ⊤
-DecodesInto (Err (faults.Refused refusal)) bitmap picture = picture ≡ Err (refusal_by refusal)

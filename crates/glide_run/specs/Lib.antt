@@ -1,13 +1,9 @@
 pub mod Script
-pub mod Pictures
 pub mod Views
 pub mod Printed
 pub mod Walk
 pub mod Run
 pub mod CodeTypes
-pub mod PictureRows
-pub mod Planning
-pub mod Filled
 pub mod Effects
 pub mod Reading
 pub mod ReaderView

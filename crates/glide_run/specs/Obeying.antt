@@ -8,7 +8,8 @@ use Rattle.glide_run.specs.declared.run.Obeyed as code_obeyed
 use Rattle.glide_run.specs.declared.run.Obeyed.TheVariants as obeyed
 use Rattle.glide_run.specs.declared.run.Stop.{Stop}
 use Rattle.glide_run.specs.declared.run.Ended.{Ended}
-use Rattle.glide_run.specs.Script.{Key, Command}
+use Rattle.cache_key.specs.Key.{Key}
+use Rattle.glide_run.specs.Script.{Command}
 use Rattle.glide_run.specs.Views.{Running, Seen, names_of, can_name, put_view}
 use Rattle.glide_run.specs.Printed.{PrintedLine, lines_text, says_failed}
 use Rattle.glide_run.specs.Effects.{Gains, WritesFront}

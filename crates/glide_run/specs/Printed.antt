@@ -7,7 +7,7 @@ use Rattle.sha2.specs.Sha256.{sha256}
 use Rattle.bitmap_kind.specs.declared.bitmaps.Config.{Config}
 use Rattle.bitmap_kind.specs.declared.bitmaps.Config.TheVariants.{Argb8888, Rgb565, Alpha8}
 use Rattle.bitmap_kind.specs.Picture.{Picture}
-use Rattle.glide_run.specs.Pictures.{Refusal, Unknown, BadNumber, BadSize, BadMaximum, SampleAbove, Truncated, BadHeader, Compressed, BadDepth, BadMasks, TooLarge}
+use Rattle.image_format.specs.Pictures.{Refusal, Unknown, BadNumber, BadSize, BadMaximum, SampleAbove, Truncated, BadHeader, Compressed, BadDepth, BadMasks, TooLarge}
 use Rattle.glide_run.specs.Views.{Cause, Missing, Refused, Source, Memory, Uncached, State, Running, Complete, Failed, Seen}
 
 -- why a text has no picture

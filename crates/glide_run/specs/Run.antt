@@ -3,7 +3,8 @@ use Rattle.std.specs.Prelude.{◌≡◌, ℕ, ◌+◌, Bool, true, false, List, 
 use Rattle.std.specs.declared.option.Option.{Option}
 use Rattle.std.specs.FinMap.{get}
 use Rattle.outside.specs.Content.{Address, Contents}
-use Rattle.glide_run.specs.Script.{Key, Command, Nothing, Bad, Load, Dump, Show}
+use Rattle.cache_key.specs.Key.{Key}
+use Rattle.glide_run.specs.Script.{Command, Nothing, Bad, Load, Dump, Show}
 use Rattle.glide_run.specs.Views.{Source, State, Running, Complete, Failed, Seen, address_of, fetched, names_of, has_name, can_name, named, put_view}
 use Rattle.glide_run.specs.Printed.{Pixels, Digest, PrintedLine, lines_as}
 

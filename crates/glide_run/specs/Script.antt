@@ -11,16 +11,7 @@ use Rattle.bitmap_kind.specs.declared.bitmaps.Transform.{Transform}
 use Rattle.bitmap_kind.specs.declared.bitmaps.Transform.TheVariants as transforms
 use Rattle.bitmap_kind.specs.declared.bitmaps.Rule.{Rule}
 use Rattle.bitmap_kind.specs.declared.bitmaps.Rule.TheVariants as rules
-
--- the picture that a load asks for, the size that it is wanted at, and how it is brought there
-pub record Key : Type 0 where
-  pub url : List ℕ
-  pub sig : List ℕ
-  pub width : ℕ
-  pub height : ℕ
-  pub transform : Transform
-  pub config : Config
-  pub rule : Rule
+use Rattle.cache_key.specs.Key.{Key}
 
 -- What a line asks for. An empty line and a comment ask for nothing; a bad line is none of the forms.
 pub data Command : Type 0 where

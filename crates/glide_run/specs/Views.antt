@@ -4,8 +4,8 @@ use Rattle.std.specs.declared.option.Option.{Option}
 use Rattle.std.specs.Str.{bytes_eq}
 use Rattle.outside.specs.Content.{Address}
 use Rattle.bitmap_kind.specs.Picture.{Picture}
-use Rattle.glide_run.specs.Script.{Key}
-use Rattle.glide_run.specs.Pictures.{Refusal, picture_of}
+use Rattle.cache_key.specs.Key.{Key}
+use Rattle.image_format.specs.Pictures.{Refusal, picture_of}
 
 -- why a view failed: the content has no such picture, its text is refused, a fetch failed, memory was wanting, or no cache had it
 pub data Cause : Type 0 where

@@ -5,13 +5,8 @@ use Rattle.std.specs.List.{list_any}
 use Rattle.std.specs.Str.{bytes_eq}
 use Rattle.std.specs.FinMap.{get}
 use Rattle.outside.specs.Content.{Address, Contents}
-use Rattle.bitmap_kind.specs.declared.bitmaps.Config.{Config}
-use Rattle.bitmap_kind.specs.declared.bitmaps.Config.TheVariants.{Argb8888, Rgb565, Alpha8}
-use Rattle.bitmap_kind.specs.declared.bitmaps.Transform.{Transform}
-use Rattle.bitmap_kind.specs.declared.bitmaps.Transform.TheVariants as transforms
-use Rattle.bitmap_kind.specs.declared.bitmaps.Rule.{Rule}
-use Rattle.bitmap_kind.specs.declared.bitmaps.Rule.TheVariants.{AtLeast, AtMost}
-use Rattle.glide_run.specs.Script.{Key, Command, Nothing, Bad, Load, Dump, Show}
+use Rattle.cache_key.specs.Key.{Key, same_key}
+use Rattle.glide_run.specs.Script.{Command, Nothing, Bad, Load, Dump, Show}
 use Rattle.glide_run.specs.Views.{Source, State, Running, Complete, Failed, View, seen, address_of, fetched, names_of, has_name, can_name, with_name, named, put_view}
 use Rattle.glide_run.specs.Printed.{Pixels, Digest, PrintedLine, lines_as, run_text, says_failed}
 
@@ -80,33 +75,6 @@ status_of lines None = if list_any says_failed lines then 1 else 0
 status_of lines (Some number) = 3
 
 -- ---- the licence of the marks
-
--- one transform
-abbrev pub same_transform : Transform → Transform → Bool
-same_transform transforms.Nothing transforms.Nothing = true
-same_transform transforms.Fit transforms.Fit = true
-same_transform transforms.Crop transforms.Crop = true
-same_transform transforms.Inside transforms.Inside = true
-same_transform a b = false
-
--- one config
-abbrev pub same_config : Config → Config → Bool
-same_config Argb8888 Argb8888 = true
-same_config Rgb565 Rgb565 = true
-same_config Alpha8 Alpha8 = true
-same_config a b = false
-
--- one rule
-abbrev pub same_rule : Rule → Rule → Bool
-same_rule AtLeast AtLeast = true
-same_rule AtMost AtMost = true
-same_rule a b = false
-
--- one picture, asked for in one way: what Glide's EngineKey compares
-abbrev pub same_key : Key → Key → Bool
-same_key a b =
-    bytes_eq a.url b.url && bytes_eq a.sig b.sig && a.width == b.width && a.height == b.height
-    && same_transform a.transform b.transform && same_config a.config b.config && same_rule a.rule b.rule
 
 -- one url and one signature
 abbrev pub same_address : Address → Address → Bool

@@ -1,19 +1,5 @@
-// Why a text has no picture, and why a view failed.
-use bmp_read::BmpFault;
-use ppm_read::PpmFault;
-
-/// Why a text has no picture.
-#[derive(Clone, Copy, Debug, PartialEq, Eq)]
-pub enum Refusal {
-    /// It begins with the magic of no kind of picture.
-    Unknown,
-    /// It breaks a rule of the Netpbm reader.
-    Ppm(PpmFault),
-    /// It breaks a rule of the reader of Windows bitmaps.
-    Bmp(BmpFault),
-    /// The source, or what would be shown of it, is beyond the limits on sides and pixels.
-    TooLarge,
-}
+// Why a view failed.
+use image_format::Refusal;
 
 /// Why a view failed.
 #[derive(Clone, Copy, Debug, PartialEq, Eq)]

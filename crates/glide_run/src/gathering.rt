@@ -3,12 +3,13 @@ ghost use Rattle.std.specs.Prelude.{◌≡◌, ◌+◌, ◌≤◌, List, [], IfO
 ghost use Rattle.outside.specs.Content.{Address};
 ghost use Rattle.glide_run.specs.Effects.{Gains};
 ghost use Rattle.glide_run.specs.Run.{Ends, Settles, Gathers, running_at, running_in};
-ghost use Rattle.glide_run.specs.CodeTypes.{key_by, state_by, view_by, views_by};
+ghost use Rattle.cache_key.specs.Key.{key_by};
+ghost use Rattle.glide_run.specs.CodeTypes.{state_by, view_by, views_by};
 
 use crate::causes::Cause;
-use crate::decode::{DecodeFault, decode};
-use crate::keys::EngineKey;
 use crate::views::{View, ViewState};
+use cache_key::EngineKey;
+use image_format::{DecodeFault, decode};
 use outside::{FetchFault, NoMemory, Source};
 use std::alloc::Global;
 

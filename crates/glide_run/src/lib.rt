@@ -2,16 +2,11 @@
 #![tactic(auto)]
 
 mod causes;
-mod decode;
 mod gathering;
-mod keys;
 mod obeying;
-mod plan;
 mod printing;
-mod raster;
 mod reader;
 mod requests;
-mod rows;
 mod run;
 mod script;
 mod top;

@@ -6,13 +6,15 @@ ghost use Rattle.sha2.specs.Sha256.{sha256};
 ghost use Rattle.outside.specs.Causes.{HasCause};
 ghost use Rattle.glide_run.specs.Printed.{refusal_text, cause_text, config_word, picture_head, state_head, state_picture, line_as, lines_as, line_text, lines_text};
 ghost use Rattle.glide_run.specs.Effects.{WritesFront};
-ghost use Rattle.glide_run.specs.Pictures.{ppm_refusal, bmp_refusal};
-ghost use Rattle.glide_run.specs.CodeTypes.{refusal_by, cause_by, state_by, view_by, views_by, form_by};
+ghost use Rattle.image_format.specs.Pictures.{ppm_refusal, bmp_refusal};
+ghost use Rattle.image_format.specs.CodeTypes.{refusal_by};
+ghost use Rattle.glide_run.specs.CodeTypes.{cause_by, state_by, view_by, views_by, form_by};
 
-use crate::causes::{Cause, Refusal};
+use crate::causes::Cause;
 use crate::views::{View, ViewState};
 use bitmap_kind::{Bitmap, Config};
 use bmp_read::BmpFault;
+use image_format::Refusal;
 use outside::{Sink, WriteFault};
 use ppm_read::PpmFault;
 use sha2::{Digest, Sha256};

@@ -12,13 +12,13 @@ ghost use Rattle.glide_run.specs.CodeTypes.{request_key, command_by, view_by, vi
 ghost use Rattle.glide_run.specs.Printed.{Digest, lines_as, has_failed, says_failed};
 
 use crate::gathering::gather;
-use crate::keys::{EngineKey, Text};
 use crate::printing::{Form, write_line, write_lines};
 use crate::requests::Request;
 use crate::script::{Command, line_command};
 use crate::views::{View, ViewState, find, put};
+use cache_key::{EngineKey, Text};
 use outside::{NoMemory, Sink, Source, WriteFault};
-use std::alloc::{AllocError, Global};
+use std::alloc::Global;
 
 /// How many views there may be.
 const VIEW_LIMIT: usize = 4_096;
@@ -49,7 +49,7 @@ pub struct Ended {
     pub failing: bool,
 }
 
-fn view_of(alloc: Global, request: &Request<'_>) -> Result<View, AllocError>
+fn view_of(alloc: Global, request: &Request<'_>) -> Result<View, NoMemory>
     ensures { IfOk result (λ view. view_by view ≡ record { name = request.now.view.now; key = request_key request.now; state = Running tt }) }
 {
     Ok(View {
@@ -68,7 +68,7 @@ fn view_of(alloc: Global, request: &Request<'_>) -> Result<View, AllocError>
 }
 
 // Obeys a `load`, and answers whether it can be.
-fn load(alloc: Global, views: &mut Vec<View>, request: &Request<'_>) -> Result<bool, AllocError>
+fn load(alloc: Global, views: &mut Vec<View>, request: &Request<'_>) -> Result<bool, NoMemory>
     ensures load { IfOk result (λ can. LoadGives can request.now.view.now (request_key request.now) (views_by views.old.items) (views_by views.new.items)) }
     ensures running { OnOk result (running_in (views_by views.new.items) ≤ running_in (views_by views.old.items) + 1) }
 {

@@ -2,9 +2,6 @@
 ghost use Rattle.std.specs.Prelude.{◌≤◌, ◌+◌};
 
 use super::*;
-use crate::keys::{EngineKey, Text};
-use crate::plan::{Plan, plan_of};
-use bitmap_kind::{Config, Rule, Transform};
 use outside::{Content, MemoryInput, MemorySink, MemorySource, Source};
 use std::alloc::{AllocError, Global};
 use std::process::Abort;
@@ -660,48 +657,6 @@ fn too_large_pictures(rt: HostRuntime) -> Result<(), Fail> {
         b"load a red 1 16384 16384 crop argb\ndump a\n",
         b"a failed refused too-large\n",
         1,
-    )?;
-    Ok(())
-}
-
-// Plans a picture of 400 by 300 that is to fit into 100 by 100.
-fn check_plan(rt: &impl Abort, alloc: Global, rule: Rule, wanted: Plan) -> Result<(), Fail> {
-    let key = EngineKey {
-        url: Text::new(alloc, b"red")?,
-        sig: Text::new(alloc, b"1")?,
-        width: 100,
-        height: 100,
-        transform: Transform::Fit,
-        config: Config::Alpha8,
-        rule,
-    };
-    assert!(rt; plan_of((400, 300), &key) == Ok(wanted));
-    Ok(())
-}
-
-#[test]
-fn plans(rt: HostRuntime) -> Result<(), Fail> {
-    check_plan(
-        &rt,
-        rt.alloc(),
-        Rule::AtLeast,
-        Plan {
-            sample: 2,
-            decoded: (200, 150),
-            target: (100, 75),
-            config: Config::Alpha8,
-        },
-    )?;
-    check_plan(
-        &rt,
-        rt.alloc(),
-        Rule::AtMost,
-        Plan {
-            sample: 4,
-            decoded: (100, 75),
-            target: (100, 75),
-            config: Config::Alpha8,
-        },
     )?;
     Ok(())
 }

@@ -5,8 +5,8 @@ ghost use Rattle.glide_run.specs.Views.{names_of, has_name, named, put_view};
 ghost use Rattle.glide_run.specs.CodeTypes.{view_by, views_by};
 
 use crate::causes::Cause;
-use crate::keys::{EngineKey, Text};
 use bitmap_kind::Bitmap;
+use cache_key::{EngineKey, Text};
 use std::alloc::AllocError;
 
 /// What became of a view's request.

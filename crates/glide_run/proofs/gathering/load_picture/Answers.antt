@@ -1,7 +1,7 @@
 use Rattle.std.proofs.Common.{ℕ, Option, Vec, Global, [], ◌∷◌, true, false, Some, Err, refl, sym, ap, ◌∙◌}
 use Rattle.glide_run.specs.Views.{address_of, decoded}
-use Rattle.glide_run.specs.Pictures.{picture_of}
-use Rattle.glide_run.specs.CodeTypes.{key_by}
+use Rattle.image_format.specs.Pictures.{picture_of}
+use Rattle.cache_key.specs.Key.{key_by}
 use Rattle.glide_run.proofs.Gathers.{some_answer, gains_failed, gains_fine, told_text, refused_by}
 use Rattle.glide_run.proofs.gathering.load_picture.Goals as goal
 

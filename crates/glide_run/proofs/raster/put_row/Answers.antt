@@ -1,7 +1,0 @@
-use Rattle.std.proofs.Common.{ap}
-use Rattle.bitmap_kind.specs.Picture.{BitmapValue}
-use Rattle.glide_run.proofs.Filling.{filled_more}
-use Rattle.glide_run.proofs.raster.put_row.Goals as goal
-
-pub returns-clause-filled : goal.returns-clause-filled
-returns-clause-filled c pixels before = filled_more _ _ _ pixels _ c.requires.row c.requires.pixels (ap (λ (v : BitmapValue). v.picture) c.put_row.ensures) before

@@ -1,0 +1,5 @@
+pub mod Pictures
+pub mod CodeTypes
+pub mod PictureRows
+pub mod Planning
+pub mod Filled
