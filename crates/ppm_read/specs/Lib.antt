@@ -3,6 +3,7 @@ pub mod Number
 pub mod Header
 pub mod Raster
 pub mod Raw
+pub mod Scale
 pub mod Plain
 pub mod Full
 pub mod Spelling

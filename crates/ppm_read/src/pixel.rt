@@ -1,6 +1,7 @@
 // Samples as bytes, and pixels in a row's buffer.
 ghost use Rattle.std.specs.Prelude.{◌≡◌, ◌≤◌, ◌+◌, ◌*◌, [], ◌∷◌, ◌++◌, length, take};
 ghost use Rattle.ppm_read.specs.Raster.{channel_count, scaled};
+ghost use Rattle.ppm_read.specs.Scale.{IsScale};
 
 use crate::header::Channels;
 
@@ -22,6 +23,35 @@ pub(crate) fn scaled(sample: u16, maximum: u16) -> u8
 {
     let full = 255 * u32::from(sample) + u32::from(maximum) / 2;
     (full / u32::from(maximum)) as u8
+}
+
+// What samples of a maximum are scaled by: the reciprocal is that of the maximum, in parts of one of which 2 to the 40th
+// are 1.
+#[derive(Clone, Copy)]
+pub(crate) struct Scale {
+    pub(crate) maximum: u16,
+    pub(crate) reciprocal: u64,
+}
+
+pub(crate) fn scale_of(maximum: u16) -> Scale
+    requires { 1 ≤ maximum }
+    ensures scale { IsScale result }
+    ensures maximum { result.maximum ≡ maximum }
+{
+    Scale {
+        maximum,
+        reciprocal: (1 << 40) / u64::from(maximum) + 1,
+    }
+}
+
+// A sample as a number up to 255, without a division.
+pub(crate) fn scaled_by(scale: Scale, sample: u16) -> u8
+    requires scale { IsScale scale }
+    requires within { sample ≤ scale.maximum }
+    ensures { result ≡ scaled scale.maximum sample }
+{
+    let full = 255 * u64::from(sample) + u64::from(scale.maximum) / 2;
+    ((full * scale.reciprocal) >> 40) as u8
 }
 
 // Writes red, green and blue of a pixel, and an alpha of 255.

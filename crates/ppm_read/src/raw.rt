@@ -5,10 +5,11 @@ ghost use Rattle.ppm_read.specs.declared.header.Format.TheVariants.{Raw};
 ghost use Rattle.ppm_read.specs.declared.header.Channels.TheVariants.{Grey, Colour};
 ghost use Rattle.ppm_read.specs.Raster.{channel_count, scaled, rgba, row_at, ReadsRow};
 ghost use Rattle.ppm_read.specs.Raw.{words, sample_length, raw_samples};
+ghost use Rattle.ppm_read.specs.Scale.{IsScale};
 
 use crate::fault::PpmFault;
 use crate::header::{Channels, Head};
-use crate::pixel::{channel_count, put_pixel, scaled};
+use crate::pixel::{Scale, channel_count, put_pixel, scale_of, scaled_by};
 
 // How many bytes a sample has.
 fn sample_length(maximum: u16) -> usize
@@ -95,48 +96,48 @@ fn write_colour(row: &[u8], into: &mut [u8], width: usize)
 }
 
 // A sample, as a number up to 255, of a row in which none is above the maximum.
-fn scaled_sample(row: &[u8], index: usize, maximum: u16) -> u8
-    requires maximum { 1 ≤ maximum }
-    requires within { list_any (nat_lt maximum) (raw_samples maximum row.now) ≡ false }
-    requires inside { index < length (raw_samples maximum row.now) }
-    ensures { result ≡ slice_index (map (scaled maximum) (raw_samples maximum row.now)) index }
+fn scaled_sample(row: &[u8], index: usize, scale: Scale) -> u8
+    requires scale { IsScale scale }
+    requires within { list_any (nat_lt scale.maximum) (raw_samples scale.maximum row.now) ≡ false }
+    requires inside { index < length (raw_samples scale.maximum row.now) }
+    ensures { result ≡ slice_index (map (scaled scale.maximum) (raw_samples scale.maximum row.now)) index }
 {
-    scaled(sample(row, index, maximum), maximum)
+    scaled_by(scale, sample(row, index, scale.maximum))
 }
 
 // A pixel of a row in which no sample is above the maximum.
-fn pixel(row: &[u8], x: usize, channels: Channels, maximum: u16) -> (u8, u8, u8)
-    requires maximum { 1 ≤ maximum }
-    requires within { list_any (nat_lt maximum) (raw_samples maximum row.now) ≡ false }
-    requires inside { channel_count channels * (x + 1) ≤ length (raw_samples maximum row.now) }
+fn pixel(row: &[u8], x: usize, channels: Channels, scale: Scale) -> (u8, u8, u8)
+    requires scale { IsScale scale }
+    requires within { list_any (nat_lt scale.maximum) (raw_samples scale.maximum row.now) ≡ false }
+    requires inside { channel_count channels * (x + 1) ≤ length (raw_samples scale.maximum row.now) }
     ensures { rgba channels (take (channel_count channels) (drop (channel_count channels * x)
-        (map (scaled maximum) (raw_samples maximum row.now))))
+        (map (scaled scale.maximum) (raw_samples scale.maximum row.now))))
         ≡ result.0 ∷ result.1 ∷ result.2 ∷ 255 ∷ [] }
 {
     match channels {
         Channels::Grey => {
-            let grey = scaled_sample(row, x, maximum);
+            let grey = scaled_sample(row, x, scale);
             (grey, grey, grey)
         }
         Channels::Colour => {
-            let red = scaled_sample(row, 3 * x, maximum);
-            let green = scaled_sample(row, 3 * x + 1, maximum);
-            let blue = scaled_sample(row, 3 * x + 2, maximum);
+            let red = scaled_sample(row, 3 * x, scale);
+            let green = scaled_sample(row, 3 * x + 1, scale);
+            let blue = scaled_sample(row, 3 * x + 2, scale);
             (red, green, blue)
         }
     }
 }
 
 // Writes a row in which no sample is above the maximum.
-fn write_scaled(row: &[u8], channels: Channels, maximum: u16, into: &mut [u8], width: usize)
-    requires maximum { 1 ≤ maximum }
-    requires within { list_any (nat_lt maximum) (raw_samples maximum row.now) ≡ false }
-    requires row { length (raw_samples maximum row.now) ≡ channel_count channels * width }
+fn write_scaled(row: &[u8], channels: Channels, scale: Scale, into: &mut [u8], width: usize)
+    requires scale { IsScale scale }
+    requires within { list_any (nat_lt scale.maximum) (raw_samples scale.maximum row.now) ≡ false }
+    requires row { length (raw_samples scale.maximum row.now) ≡ channel_count channels * width }
     requires into { length into.old ≡ 4 * width }
-    ensures { into.new ≡ rgba channels (map (scaled maximum) (raw_samples maximum row.now)) }
+    ensures { into.new ≡ rgba channels (map (scaled scale.maximum) (raw_samples scale.maximum row.now)) }
 {
     for x in 0..width {
-        put_pixel(into, x, pixel(row, x, channels, maximum));
+        put_pixel(into, x, pixel(row, x, channels, scale));
     }
 }
 
@@ -149,7 +150,7 @@ fn write_row(row: &[u8], channels: Channels, maximum: u16, into: &mut [u8], widt
     ensures { into.new ≡ rgba channels (map (scaled maximum) (raw_samples maximum row.now)) }
 {
     if maximum != 255 {
-        return write_scaled(row, channels, maximum, into, width);
+        return write_scaled(row, channels, scale_of(maximum), into, width);
     }
     match channels {
         Channels::Grey => write_grey(row, into),

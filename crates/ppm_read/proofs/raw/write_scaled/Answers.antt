@@ -12,14 +12,14 @@ pixel-requires-clause-inside c =
 
 pub loop-x-preserved : goal.loop-x-preserved
 loop-x-preserved c =
-    let s = raw_samples c.args.maximum c.args.row.now in
-    row_more c.args.channels (map (scaled c.args.maximum) s) c.loop-x.into c.put_pixel.new.into _ c.loop-x.x
-    (omega (arith, length-map s (scaled c.args.maximum), mul-le-mul_left (channel_count c.args.channels) (c.loop-x-test.true), c.requires.row))
+    let s = raw_samples c.args.scale.maximum c.args.row.now in
+    row_more c.args.channels (map (scaled c.args.scale.maximum) s) c.loop-x.into c.put_pixel.new.into _ c.loop-x.x
+    (omega (arith, length-map s (scaled c.args.scale.maximum), mul-le-mul_left (channel_count c.args.channels) (c.loop-x-test.true), c.requires.row))
     c.put_pixel.ensures c.pixel.ensures c.loop-x.invariant
 
 pub returns : goal.returns
 returns c =
-    let s = raw_samples c.args.maximum c.args.row.now in
-    row_all c.args.channels (map (scaled c.args.maximum) s) c.loop-x.into c.loop-x.x
-    (omega (arith, length-map s (scaled c.args.maximum), mul-le-mul_left (channel_count c.args.channels) (c.loop-x-test.false), c.requires.row))
+    let s = raw_samples c.args.scale.maximum c.args.row.now in
+    row_all c.args.channels (map (scaled c.args.scale.maximum) s) c.loop-x.into c.loop-x.x
+    (omega (arith, length-map s (scaled c.args.scale.maximum), mul-le-mul_left (channel_count c.args.channels) (c.loop-x-test.false), c.requires.row))
     (omega (arith, c.requires.into)) c.loop-x.invariant

@@ -5,5 +5,5 @@ use Rattle.ppm_read.proofs.raw.write_scaled.Given as goal
 
 abbrev pub invariant-loop-x : goal.invariant-loop-x
 invariant-loop-x l =
-    let s = map (scaled l.maximum) (raw_samples l.maximum l.row) in
+    let s = map (scaled l.scale.maximum) (raw_samples l.scale.maximum l.row) in
     take (4 * l.x) l.into ++ rgba l.channels (drop (channel_count l.channels * l.x) s) ≡ rgba l.channels s
