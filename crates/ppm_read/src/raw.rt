@@ -39,12 +39,12 @@ fn sample(row: &[u8], index: usize, maximum: u16) -> u16
 }
 
 // Whether a sample of one byte is above the maximum.
-fn has_byte_above(row: &[u8], maximum: u16) -> bool
+fn has_byte_above(row: &[u8], maximum: u8) -> bool
     ensures { result ≡ list_any (nat_lt maximum) row.now }
 {
     let mut above = false;
     for sample in row {
-        above = above | (u16::from(*sample) > maximum);
+        above = above | (*sample > maximum);
     }
     above
 }
@@ -64,12 +64,15 @@ fn has_word_above(row: &[u8], maximum: u16) -> bool
 fn has_above(row: &[u8], maximum: u16) -> bool
     ensures { result ≡ list_any (nat_lt maximum) (raw_samples maximum row.now) }
 {
-    // No byte is above 255.
+    // No byte is above 255, and no word above 65,535.
     if maximum == 255 {
         return false;
     }
     if maximum < 256 {
-        return has_byte_above(row, maximum);
+        return has_byte_above(row, maximum as u8);
+    }
+    if maximum == 65_535 {
+        return false;
     }
     has_word_above(row, maximum)
 }
