@@ -6,13 +6,22 @@ ghost use Rattle.bmp_read.specs.Raster.{pixels};
 use crate::format::Palette;
 use crate::pixel::{Rgba, bgr, put_pixel};
 
+// The colour of an index that the palette has.
+fn known_colour(text: &[u8], palette: Palette, index: u8) -> Rgba
+    requires palette { IsPaletteInside palette text.now }
+    requires known { index < palette.count }
+    ensures { rgba result ≡ palette_colour palette text.now index }
+{
+    bgr(text, palette.start + 4 * usize::from(index))
+}
+
 // The colour of an index, which is opaque black where the palette has none.
 fn palette_colour(text: &[u8], palette: Palette, index: u8) -> Rgba
     requires { IsPaletteInside palette text.now }
     ensures { rgba result ≡ palette_colour palette text.now index }
 {
     if usize::from(index) < palette.count {
-        return bgr(text, palette.start + 4 * usize::from(index));
+        return known_colour(text, palette, index);
     }
     Rgba {
         red: 0,
@@ -74,6 +83,19 @@ pub(crate) fn write_indexed4(
     }
 }
 
+// Writes a row by a palette that has all indexes.
+fn write_known8(text: &[u8], palette: Palette, row: &[u8], into: &mut [u8], width: usize)
+    requires palette { IsPaletteInside palette text.now }
+    requires known { palette.count ≡ 256 }
+    requires row { width ≤ length row.now }
+    requires into { length into.old ≡ 4 * width }
+    ensures { into.new ≡ pixels (λ x. palette_colour palette text.now (slice_index row.now x)) width }
+{
+    for x in 0..width {
+        put_pixel(into, x, known_colour(text, palette, row[x]));
+    }
+}
+
 pub(crate) fn write_indexed8(
     text: &[u8],
     palette: Palette,
@@ -86,6 +108,9 @@ pub(crate) fn write_indexed8(
     requires into { length into.old ≡ 4 * width }
     ensures { into.new ≡ pixels (λ x. palette_colour palette text.now (slice_index row.now x)) width }
 {
+    if palette.count == 256 {
+        return write_known8(text, palette, row, into, width);
+    }
     for x in 0..width {
         put_pixel(into, x, palette_colour(text, palette, row[x]));
     }
