@@ -80,7 +80,13 @@ fn text_of(alloc: Global, header: &[u8], unit: &[u8]) -> Result<Vec<u8>> {
 fn bmp_header(alloc: Global, bits: u16, compression: u32) -> Result<Vec<u8>> {
     let mut header = Vec::new(alloc);
     header.extend_from_slice(b"BM\0\0\0\0\0\0\0\0")?;
-    for field in [1078u32, 40, WIDTH, HEIGHT.wrapping_neg(), 0x10000 * u32::from(bits) + 1] {
+    for field in [
+        1078u32,
+        40,
+        WIDTH,
+        HEIGHT.wrapping_neg(),
+        0x10000 * u32::from(bits) + 1,
+    ] {
         header.extend_from_slice(&field.to_le_bytes())?;
     }
     for field in [compression, 0, 0, 0, 0, 0] {
@@ -103,7 +109,13 @@ enum Reader {
 }
 
 // The least time of a picture in microseconds, its rows, and the sum of its last one.
-fn measure(rt: &impl Runtime, alloc: Global, name: &str, reader: Reader, text: &[u8]) -> Result<()> {
+fn measure(
+    rt: &impl Runtime,
+    alloc: Global,
+    name: &str,
+    reader: Reader,
+    text: &[u8],
+) -> Result<()> {
     let mut row = vec![in alloc; 0u8; 16000]?;
     let mut least = u128::MAX;
     let mut count = 0;
