@@ -1,4 +1,5 @@
-// Rows of colours of a fixed layout.
+// Rows of colours of a fixed layout. The loops over a row stay functions of their own, so that they keep their values in
+// registers.
 ghost use Rattle.std.specs.Prelude.{◌≡◌, ◌≤◌, ◌*◌, length};
 ghost use Rattle.bmp_read.specs.Pixel.{rgba, bgr_at, rgb555};
 ghost use Rattle.bmp_read.specs.Bytes.{u16_at};
@@ -20,6 +21,7 @@ fn rgb555(value: u16) -> Rgba
     }
 }
 
+#[inline(never)]
 pub(crate) fn write_rgb555(row: &[u8], into: &mut [u8], width: usize)
     requires row { 2 * width ≤ length row.now }
     requires into { length into.old ≡ 4 * width }
@@ -30,6 +32,7 @@ pub(crate) fn write_rgb555(row: &[u8], into: &mut [u8], width: usize)
     }
 }
 
+#[inline(never)]
 pub(crate) fn write_bgr24(row: &[u8], into: &mut [u8], width: usize)
     requires row { 3 * width ≤ length row.now }
     requires into { length into.old ≡ 4 * width }
@@ -40,6 +43,7 @@ pub(crate) fn write_bgr24(row: &[u8], into: &mut [u8], width: usize)
     }
 }
 
+#[inline(never)]
 pub(crate) fn write_bgr32(row: &[u8], into: &mut [u8], width: usize)
     requires row { 4 * width ≤ length row.now }
     requires into { length into.old ≡ 4 * width }

@@ -1,4 +1,5 @@
-// Rows of indexes into a palette.
+// Rows of indexes into a palette. The loops over a row stay functions of their own, so that they keep their values in
+// registers.
 ghost use Rattle.std.specs.Prelude.{◌≡◌, ◌≤◌, ◌<◌, ◌/◌, ◌+◌, ◌*◌, length, slice_index};
 ghost use Rattle.bmp_read.specs.Pixel.{rgba, palette_colour, index1, index4, IsPaletteInside};
 ghost use Rattle.bmp_read.specs.Raster.{pixels};
@@ -49,6 +50,7 @@ fn index4(row: &[u8], x: usize) -> u8
     }
 }
 
+#[inline(never)]
 pub(crate) fn write_indexed1(
     text: &[u8],
     palette: Palette,
@@ -66,6 +68,7 @@ pub(crate) fn write_indexed1(
     }
 }
 
+#[inline(never)]
 pub(crate) fn write_indexed4(
     text: &[u8],
     palette: Palette,
@@ -84,6 +87,7 @@ pub(crate) fn write_indexed4(
 }
 
 // Writes a row by a palette that has all indexes.
+#[inline(never)]
 fn write_known8(text: &[u8], palette: Palette, row: &[u8], into: &mut [u8], width: usize)
     requires palette { IsPaletteInside palette text.now }
     requires known { palette.count ≡ 256 }
@@ -96,6 +100,7 @@ fn write_known8(text: &[u8], palette: Palette, row: &[u8], into: &mut [u8], widt
     }
 }
 
+#[inline(never)]
 pub(crate) fn write_indexed8(
     text: &[u8],
     palette: Palette,

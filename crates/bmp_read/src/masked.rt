@@ -1,4 +1,5 @@
-// Rows of colours by masks.
+// Rows of colours by masks. The loops over a row stay functions of their own, so that they keep their values in
+// registers.
 ghost use Rattle.std.specs.Prelude.{◌≡◌, ◌≤◌, ◌*◌, length};
 ghost use Rattle.bmp_read.specs.Pixel.{rgba, channel, masked_colour};
 ghost use Rattle.bmp_read.specs.Bytes.{u16_at, u32_at};
@@ -36,6 +37,7 @@ fn masked_colour(masks: Masks, value: u32) -> Rgba
     }
 }
 
+#[inline(never)]
 pub(crate) fn write_masked16(row: &[u8], masks: Masks, into: &mut [u8], width: usize)
     requires row { 2 * width ≤ length row.now }
     requires into { length into.old ≡ 4 * width }
@@ -46,6 +48,7 @@ pub(crate) fn write_masked16(row: &[u8], masks: Masks, into: &mut [u8], width: u
     }
 }
 
+#[inline(never)]
 pub(crate) fn write_masked32(row: &[u8], masks: Masks, into: &mut [u8], width: usize)
     requires row { 4 * width ≤ length row.now }
     requires into { length into.old ≡ 4 * width }

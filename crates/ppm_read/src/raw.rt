@@ -1,4 +1,5 @@
-// Rows of raw samples.
+// Rows of raw samples. The loops over a row stay functions of their own, so that they keep their values in
+// registers.
 ghost use Rattle.std.specs.Prelude.{◌≡◌, ◌≤◌, ◌<◌, ◌+◌, ◌*◌, Bool, false, [], ◌∷◌, length, map, take, drop, nat_lt, slice_index};
 ghost use Rattle.std.specs.List.{list_any};
 ghost use Rattle.ppm_read.specs.declared.header.Format.TheVariants.{Raw};
@@ -39,6 +40,7 @@ fn sample(row: &[u8], index: usize, maximum: u16) -> u16
 }
 
 // Whether a sample of one byte is above the maximum.
+#[inline(never)]
 fn has_byte_above(row: &[u8], maximum: u8) -> bool
     ensures { result ≡ list_any (nat_lt maximum) row.now }
 {
@@ -50,6 +52,7 @@ fn has_byte_above(row: &[u8], maximum: u8) -> bool
 }
 
 // Whether a sample of two bytes is above the maximum.
+#[inline(never)]
 fn has_word_above(row: &[u8], maximum: u16) -> bool
     ensures { result ≡ list_any (nat_lt maximum) (words row.now) }
 {
@@ -78,6 +81,7 @@ fn has_above(row: &[u8], maximum: u16) -> bool
 }
 
 // Writes grey bytes of the maximum 255.
+#[inline(never)]
 fn write_grey(row: &[u8], into: &mut [u8])
     requires { length into.old ≡ 4 * length row.now }
     ensures { into.new ≡ rgba Grey row.now }
@@ -88,6 +92,7 @@ fn write_grey(row: &[u8], into: &mut [u8])
 }
 
 // Writes red, green and blue bytes of the maximum 255.
+#[inline(never)]
 fn write_colour(row: &[u8], into: &mut [u8], width: usize)
     requires row { length row.now ≡ 3 * width }
     requires into { length into.old ≡ 4 * width }
@@ -132,6 +137,7 @@ fn pixel(row: &[u8], x: usize, channels: Channels, scale: Scale) -> (u8, u8, u8)
 }
 
 // Writes a row in which no sample is above the maximum.
+#[inline(never)]
 fn write_scaled(row: &[u8], channels: Channels, scale: Scale, into: &mut [u8], width: usize)
     requires scale { IsScale scale }
     requires within { list_any (nat_lt scale.maximum) (raw_samples scale.maximum row.now) ≡ false }
