@@ -41,7 +41,8 @@ fn index1(row: &[u8], x: usize) -> u8
 
 fn index4(row: &[u8], x: usize) -> u8
     requires { x / 2 < length row.now }
-    ensures { result ≡ index4 row.now x }
+    ensures value { result ≡ index4 row.now x }
+    ensures bound { result < 16 }
 {
     if x % 2 == 0 {
         row[x / 2] >> 4
@@ -68,6 +69,20 @@ pub(crate) fn write_indexed1(
     }
 }
 
+// Writes a row by a palette that has all indexes.
+#[inline(never)]
+fn write_known4(text: &[u8], palette: Palette, row: &[u8], into: &mut [u8], width: usize)
+    requires palette { IsPaletteInside palette text.now }
+    requires known { palette.count ≡ 16 }
+    requires row { width ≤ 2 * length row.now }
+    requires into { length into.old ≡ 4 * width }
+    ensures { into.new ≡ pixels (λ x. palette_colour palette text.now (index4 row.now x)) width }
+{
+    for x in 0..width {
+        put_pixel(into, x, known_colour(text, palette, index4(row, x)));
+    }
+}
+
 #[inline(never)]
 pub(crate) fn write_indexed4(
     text: &[u8],
@@ -81,6 +96,9 @@ pub(crate) fn write_indexed4(
     requires into { length into.old ≡ 4 * width }
     ensures { into.new ≡ pixels (λ x. palette_colour palette text.now (index4 row.now x)) width }
 {
+    if palette.count == 16 {
+        return write_known4(text, palette, row, into, width);
+    }
     for x in 0..width {
         put_pixel(into, x, palette_colour(text, palette, index4(row, x)));
     }
