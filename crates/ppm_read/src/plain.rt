@@ -11,6 +11,7 @@ use crate::number::{after_white, begins_white, missing, number};
 use crate::pixel::{put_pixel, scaled};
 
 // A sample, and the text after it. The last one of the raster may end with the text.
+#[inline(always)]
 fn plain_sample(text: &[u8], maximum: u16, last: bool) -> Result<(u16, &[u8]), PpmFault>
     ensures read { Gives (λ found. (found.0, found.1.now)) result
         (sample_at Plain maximum last text.now) }
@@ -57,6 +58,7 @@ fn colour_pixel(text: &[u8], maximum: u16, last: bool) -> Result<((u8, u8, u8), 
 }
 
 // A pixel, and the text after it.
+#[inline(always)]
 fn plain_pixel(text: &[u8], head: Head, last: bool) -> Result<((u8, u8, u8), &[u8]), PpmFault>
     requires maximum { 1 ≤ head.maximum }
     requires format { head.format ≡ Plain }
@@ -79,6 +81,7 @@ fn is_last_pixel(last: bool, x: u32, width: u32) -> bool
 }
 
 // The text after a row.
+#[inline(never)]
 fn after_plain_row(text: &[u8], head: Head, last: bool) -> Result<&[u8], PpmFault>
     requires maximum { 1 ≤ head.maximum }
     requires format { head.format ≡ Plain }
@@ -93,6 +96,7 @@ fn after_plain_row(text: &[u8], head: Head, last: bool) -> Result<&[u8], PpmFaul
 }
 
 // Writes a row, up to its first fault, and gives the text after it.
+#[inline(never)]
 fn write_plain_row<'a>(
     text: &'a [u8],
     head: Head,
