@@ -100,7 +100,7 @@ static const uint8_t *plain(const uint8_t *text, uint32_t *value) {
 
 static const uint8_t *read_plain(const struct picture *p, const uint8_t *text, uint8_t *restrict to) {
     for (size_t x = 0; x < WIDTH; x++) {
-        uint8_t channel[3];
+        uint8_t channel[3] = { 0 };
         for (size_t i = 0; i < p->channels; i++) {
             uint32_t value;
             text = plain(text, &value);
