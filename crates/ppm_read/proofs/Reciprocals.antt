@@ -40,11 +40,11 @@ full_small v m some le bound =
     let most : (255 * v + m / 2) * m ≤ 16777215 * 65535 = mul-le (255 * v + m / 2) m 16777215 65535 (omega arith) (omega arith) in
     omega (arith, most)
 
--- a sample by the reciprocal of its maximum
+-- a sample is scaled by the reciprocal of its maximum
 pub share_is : (v m n h r : ℕ) → 1 ≤ m → v ≤ m → m < 65536 → n ≡ v → h ≡ m → r ≡ 2 ^ 40 / m + 1 → (255 * n + h / 2) * r / 2 ^ 40 ≡ (255 * v + m / 2) / m
 share_is v m n h r some le bound e f g = (λ i. (255 * e i + f i / 2) * g i / 2 ^ 40) ∙ by_reciprocal (255 * v + m / 2) m (2 ^ 40) some (full_small v m some le bound)
 
 pub share_fits : (v m : ℕ) → 1 ≤ m → v ≤ m → (255 * v + m / 2) / m < 256
-share_fits v m some le = omega (arith, div-mul-le_self (255 * v + m / 2) m, lt_of_mul-lt-mul_right m (share_bound v m some le)) where
-  share_bound : (v m : ℕ) → 1 ≤ m → v ≤ m → (255 * v + m / 2) / m * m < 256 * m
-  share_bound v m some le = omega (arith, div-mul-le_self (255 * v + m / 2) m)
+share_fits v m some le =
+    let product : (255 * v + m / 2) / m * m < 256 * m = omega (arith, div-mul-le_self (255 * v + m / 2) m) in
+    lt_of_mul-lt-mul_right m product

@@ -25,8 +25,7 @@ pub(crate) fn scaled(sample: u16, maximum: u16) -> u8
     (full / u32::from(maximum)) as u8
 }
 
-// What samples of a maximum are scaled by: the reciprocal is that of the maximum, in parts of one of which 2 to the 40th
-// are 1.
+// What samples of a maximum are scaled by: its reciprocal, rounded up, where 2 to the 40th stands for 1.
 #[derive(Clone, Copy)]
 pub(crate) struct Scale {
     pub(crate) maximum: u16,
