@@ -20,6 +20,7 @@ unsigned n = if nat_lt n (2 ^ 31) then n else 2 ^ 32 - n
 abbrev pub raster_end : ℕ → ℕ → ℕ → ℕ → ℕ
 raster_end start width bits height = start + (width * bits + 31) / 32 * 4 * height
 
+-- the list, from the fields at their places
 unfoldable pub rules : List ℕ → List Rule
 rules text =
     let info_size = u32_at 14 text in
@@ -47,6 +48,7 @@ abbrev pub first_broken : List Rule → Option BmpFault
 first_broken [] = None
 first_broken (rule ∷ others) = if rule.kept then first_broken others else Some rule.fault
 
+-- the fault that is answered, if one is
 abbrev pub fault_of : {A : Type 0} → Result A BmpFault → Option BmpFault
 fault_of (Ok x) = None
 fault_of (Err fault) = Some fault

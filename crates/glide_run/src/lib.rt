@@ -15,6 +15,10 @@ mod views;
 pub use top::{Ending, glide_alone};
 
 #[cfg(test)]
+mod picture_tests;
+#[cfg(test)]
+mod test_runs;
+#[cfg(test)]
 mod tests;
 #[cfg(test)]
 mod worked;
