@@ -19,6 +19,7 @@ use crate::rows::PictureRows;
 use bitmap_kind::Bitmap;
 use cache_key::EngineKey;
 use outside::NoMemory;
+use ppm_read::PpmFault;
 use sampling::BoxRows;
 use std::alloc::Global;
 use transforms::transform;
@@ -142,6 +143,7 @@ fn decode_ppm(alloc: Global, text: &[u8], key: &EngineKey) -> Result<Bitmap, Dec
 {
     let head = match ppm_read::read_head(text) {
         Ok(head) => head,
+        Err(PpmFault::BadMagic) => return Err(DecodeFault::Refused(Refusal::Unknown)),
         Err(fault) => return Err(DecodeFault::Refused(Refusal::Ppm(fault))),
     };
     let mut rows = PictureRows::of_ppm(text, head);
