@@ -6,22 +6,22 @@ use std::process::Abort;
 use std::test::Fail;
 
 // A red pixel and a blue one.
-pub const RED: &[u8] = b"P6\n2 1\n255\n\xff\x00\x00\x00\x00\xff";
+pub(crate) const RED: &[u8] = b"P6\n2 1\n255\n\xff\x00\x00\x00\x00\xff";
 
 // A green pixel.
-pub const GREEN: &[u8] = b"P6\n1 1\n255\n\x00\xff\x00";
+const GREEN: &[u8] = b"P6\n1 1\n255\n\x00\xff\x00";
 
 // Two by two pixels, which a size of one by one samples.
-pub const SQUARE: &[u8] = b"P6\n2 2\n255\n\x01\x02\x03\x04\x05\x06\x07\x08\x09\x0a\x0b\x0c";
+const SQUARE: &[u8] = b"P6\n2 2\n255\n\x01\x02\x03\x04\x05\x06\x07\x08\x09\x0a\x0b\x0c";
 
-pub const SCRIPT: &[u8] = b"load a red 1 2 1 none argb\ndump a\n";
+pub(crate) const SCRIPT: &[u8] = b"load a red 1 2 1 none argb\ndump a\n";
 
-pub const LINE: &[u8] = b"a pixels ff0000ff0000ffff\n";
+pub(crate) const LINE: &[u8] = b"a pixels ff0000ff0000ffff\n";
 
 // No call of the source fails.
-pub const NONE: u64 = 1000;
+pub(crate) const NONE: u64 = 1000;
 
-pub fn text_at(alloc: Global, url: &[u8], bytes: &[u8]) -> Result<Content, AllocError> {
+fn text_at(alloc: Global, url: &[u8], bytes: &[u8]) -> Result<Content, AllocError> {
     Ok(Content {
         url: url.to_vec(alloc)?,
         sig: b"1".to_vec(alloc)?,
@@ -30,7 +30,7 @@ pub fn text_at(alloc: Global, url: &[u8], bytes: &[u8]) -> Result<Content, Alloc
 }
 
 // A source with the text of `red`, and `green` and `square`.
-pub fn source_of(alloc: Global, red: &[u8], fails: u64) -> Result<MemorySource, AllocError> {
+pub(crate) fn source_of(alloc: Global, red: &[u8], fails: u64) -> Result<MemorySource, AllocError> {
     let mut content = Vec::new(alloc);
     content.push(text_at(alloc, b"red", red)?)?;
     content.push(text_at(alloc, b"green", GREEN)?)?;
@@ -42,9 +42,9 @@ pub fn source_of(alloc: Global, red: &[u8], fails: u64) -> Result<MemorySource, 
 
 // What has to come of a run: what is written, the status and the number of fetches.
 #[derive(Drop)]
-pub struct Wanted<'a>(pub &'a [u8], pub u8, pub u64);
+pub(crate) struct Wanted<'a>(pub &'a [u8], pub u8, pub u64);
 
-pub fn check(
+pub(crate) fn check(
     rt: &impl Abort,
     alloc: Global,
     script: &[u8],
@@ -62,7 +62,7 @@ pub fn check(
 }
 
 // Runs the first script over this text of `red`.
-pub fn check_red(
+pub(crate) fn check_red(
     rt: &impl Abort,
     alloc: Global,
     red: &[u8],
@@ -79,7 +79,7 @@ pub fn check_red(
 }
 
 // Runs this script over the picture of `red`.
-pub fn check_script(
+pub(crate) fn check_script(
     rt: &impl Abort,
     alloc: Global,
     script: &[u8],
@@ -97,7 +97,7 @@ pub fn check_script(
 }
 
 // Loads this text under a line of `load` for `red`, and dumps the view.
-pub fn check_picture(
+pub(crate) fn check_picture(
     rt: &impl Abort,
     alloc: Global,
     text: &[u8],
