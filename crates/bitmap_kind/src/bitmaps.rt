@@ -3,7 +3,7 @@ ghost use Rattle.std.specs.Prelude.{◌≡◌, ℕ, ◌+◌, ◌*◌, ◌<◌, �
 ghost use Rattle.bitmap_kind.specs.Stored.{pixel_bytes, stored, overwritten};
 
 use crate::pieces;
-use outside::NoMemory;
+use faults::NoMemory;
 use std::alloc::Global;
 use std::marker::Model;
 

@@ -4,7 +4,7 @@ ghost use Rattle.bitmap_kind.specs.Picture.{stored_size};
 ghost use Rattle.bitmap_kind.specs.Stored.{stored};
 
 use crate::{Bitmap, Config};
-use outside::NoMemory;
+use faults::NoMemory;
 use std::alloc::Global;
 use std::test::Fail;
 

@@ -4,7 +4,7 @@ use Rattle.std.specs.declared.option.Option.{Option}
 use Rattle.std.specs.Option.{option_map}
 use Rattle.std.specs.List.{list_any}
 use Rattle.std.specs.Io.KnownBytes.{prepend_known, Consumes, IsAtEnd, Keeps}
-use Rattle.outside.specs.declared.faults.Failed.{Failed}
+use Rattle.faults.specs.declared.Failed.{Failed}
 use Rattle.glide_run.specs.declared.reader.Next.{Next}
 use Rattle.glide_run.specs.declared.reader.Next.TheVariants.{Line, Last, End, TooLong}
 use Rattle.glide_run.specs.Script.{Command, Bad, line_command, commands_within}

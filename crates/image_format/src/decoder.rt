@@ -18,7 +18,7 @@ use crate::refusal::Refusal;
 use crate::rows::PictureRows;
 use bitmap_kind::Bitmap;
 use cache_key::EngineKey;
-use outside::NoMemory;
+use faults::NoMemory;
 use ppm_read::PpmFault;
 use sampling::BoxRows;
 use std::alloc::Global;

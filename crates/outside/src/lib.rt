@@ -2,7 +2,6 @@
 #![tactic(auto)]
 
 mod calls;
-mod faults;
 mod folder_path;
 mod folder_source;
 mod inputs;

@@ -4,7 +4,7 @@ ghost use Rattle.sampling.specs.Sampled.{sampled_side, sampled_row};
 ghost use Rattle.sampling.specs.BoxValue.{BoxValue, Holds, EndsBlocks};
 
 use crate::sums::Sums;
-use outside::NoMemory;
+use faults::NoMemory;
 use std::alloc::Global;
 use std::marker::Model;
 

@@ -3,7 +3,7 @@ ghost use Rattle.std.specs.Prelude.{◌≡◌, ℕ, ◌+◌, ◌*◌, ◌<◌, �
 ghost use Rattle.sampling.specs.Sampled.{sampled_picture};
 
 use crate::box_rows::{BoxRows, sampled_side};
-use outside::NoMemory;
+use faults::NoMemory;
 use std::alloc::Global;
 
 /// The sampled picture of a whole picture, four bytes a pixel: each row is pushed after the other,

@@ -4,7 +4,7 @@ ghost use Rattle.sampling.specs.Lanes.{AddsRow, GivesMeans};
 ghost use Rattle.sampling.specs.SumsView.{lanes_of, limit_of};
 
 use crate::{narrow, wide};
-use outside::NoMemory;
+use faults::NoMemory;
 use std::alloc::Global;
 
 // The sum of so many bytes, and half as much as their number more, stays below 2 ^ 32.

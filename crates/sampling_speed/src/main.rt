@@ -3,7 +3,7 @@
 
 ghost use Rattle.std.specs.Prelude.{◌≡◌, ℕ, ◌*◌, ◌<◌, ◌≤◌, vec_len};
 
-use outside::NoMemory;
+use faults::NoMemory;
 use sampling::sampled_picture;
 use std::alloc::Global;
 use std::rt::Env;
