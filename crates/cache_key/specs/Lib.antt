@@ -1,1 +1,5 @@
 pub mod Key
+pub mod KeyBytes
+pub mod KeyOf
+pub mod Room
+pub mod Worked

@@ -1,9 +1,17 @@
 // What a load asks for, by which loads are told apart.
 #![tactic(auto)]
 
+mod key_of;
+mod key_room;
 mod keys;
+mod load_spec;
+mod text;
 
-pub use keys::{EngineKey, Text};
+pub use key_of::KeyOf;
+pub use key_room::KeyRoom;
+pub use keys::{EngineKey, same_key_is_equality};
+pub use load_spec::{LoadSpec, Priority, Strategy};
+pub use text::Text;
 
 #[cfg(test)]
 mod tests;

@@ -1,0 +1,8 @@
+-- Keys by numbers, as a table of resources shows them. This project's own.
+use Rattle.std.specs.Ordering.{nat_cmp}
+use Rattle.std.specs.FinMap as map
+use Rattle.cache_key.specs.Key.{Key}
+
+-- a key for each of finitely many numbers
+abbrev pub KeyMap : Type 0
+KeyMap = map.FinMap nat_cmp Key
