@@ -1,17 +1,17 @@
 // What no clause says: that calls succeed with ample memory, which call a number names, and what the
 // system's files answer.
-ghost use Rattle.std.specs.Prelude.{◌≡◌, ◌∷◌, [], codes, Some, None, true, false};
+ghost use Rattle.std.specs.Prelude.{◌≡◌, ◌∷◌, [], codes, Some, None, IfOk, true, false};
 ghost use Rattle.std.specs.FinMap.{get};
 ghost use Rattle.outside.specs.FolderPath.{is_path};
 ghost use Rattle.outside.specs.Texts.{ContentBytes, contents_of};
 
 use crate::{
-    Content, Failed, FetchFault, FolderSource, Input, LONGEST_FILE, MemoryInput, MemorySink,
-    MemorySource, RealInput, RealSink, Sink, Source, WriteFault,
+    Content, Failed, FetchFault, FolderSource, Input, MemoryInput, MemorySink, MemorySource,
+    RealInput, RealSink, Sink, Source, WriteFault,
 };
 use std::alloc::{AllocError, Allocator, Global};
 use std::fs::OpenFile;
-use std::io::{BufRead, Lines};
+use std::io::{BufRead, ErrorKind, Lines, Read, Write};
 use std::test::Fail;
 use std::{fs, io, process};
 
@@ -130,6 +130,64 @@ fn real_input_reads_to_the_end(rt: HostRuntime) {
     assert_eq!(rt; into, *b" v\np");
 }
 
+// A stream of which every second call fails, the first not.
+#[derive(Drop)]
+struct EverySecondFails {
+    fails: bool,
+}
+
+impl EverySecondFails {
+    fn next(&mut self) -> io::Result<usize>
+        ensures { IfOk result (λ count. count ≡ 1) }
+    {
+        self.fails = !self.fails;
+        if self.fails {
+            Ok(1)
+        } else {
+            Err(io::Error::from(ErrorKind::BrokenPipe))
+        }
+    }
+}
+
+impl Read for EverySecondFails {
+    fn read(&mut self, into: &mut [u8]) -> io::Result<usize> {
+        let count = self.next()?;
+        Ok(count.min(into.len()))
+    }
+}
+
+impl Write for EverySecondFails {
+    fn write(&mut self, bytes: &[u8]) -> io::Result<usize> {
+        let count = self.next()?;
+        Ok(count.min(bytes.len()))
+    }
+
+    fn flush(&mut self) -> io::Result<()> {
+        self.next()?;
+        Ok(())
+    }
+}
+
+#[test]
+fn real_input_tells_a_failure_in_mid_run(rt: HostRuntime) {
+    let mut input = RealInput::over(EverySecondFails { fails: false });
+    let mut into = [0u8; 4];
+    let first = input.read(&mut into);
+    let second = input.read(&mut into);
+    let third = input.read(&mut into);
+    assert_eq!(rt; (first, second, third), (Ok(1), Err(Failed), Ok(1)));
+}
+
+#[test]
+fn real_sink_tells_failures_in_mid_run(rt: HostRuntime) {
+    let mut sink = RealSink::over(EverySecondFails { fails: false });
+    assert_eq!(rt; sink.write(b"ab"), Ok(1));
+    assert_eq!(rt; sink.write(b"b"), Err(WriteFault::Failed));
+    assert_eq!(rt; sink.flush(), Ok(()));
+    assert_eq!(rt; sink.flush(), Err(WriteFault::Failed));
+    assert_eq!(rt; sink.write(b"b"), Ok(1));
+}
+
 #[test]
 fn real_sink_writes_to_standard_output(rt: HostRuntime) {
     let mut sink = RealSink::new(&rt);
@@ -149,16 +207,23 @@ fn put_file(rt: &HostRuntime, folder: &str, name: &str, bytes: &[u8]) -> Result<
     Ok(())
 }
 
-// A folder with the picture `images/red.ppm`, `long` of 300,000 bytes, and `huge`, which is one byte longer
-// than a file may be and has no block on the disk.
+// A file of so many bytes that has no block on the disk.
+fn make_sparse(rt: &HostRuntime, folder: &str, name: &str, length: usize) -> Result<(), Fail> {
+    let file = fs::create(rt, format!(in rt.alloc(); "{folder}/{name}")?.as_str())?;
+    file.set_len(length as u64)?;
+    Ok(())
+}
+
+// A folder with the picture `images/red.ppm`, `long` of 300,000 bytes, `empty`, `longest` of as many bytes as a file may
+// have, and `huge`, which has one more.
 fn make_folder(rt: &HostRuntime, folder: &str) -> Result<(), Fail> {
     let alloc = rt.alloc();
     fs::create_dir_all(rt, format!(in alloc; "{folder}/images")?.as_str())?;
     put_file(rt, folder, "images/red.ppm", RED)?;
     put_file(rt, folder, "long", vec![in alloc; 7u8; 300_000]?.as_slice())?;
-    let huge = fs::create(rt, format!(in alloc; "{folder}/huge")?.as_str())?;
-    huge.set_len(LONGEST_FILE as u64 + 1)?;
-    Ok(())
+    put_file(rt, folder, "empty", b"")?;
+    make_sparse(rt, folder, "longest", 268_435_456)?;
+    make_sparse(rt, folder, "huge", 268_435_457)
 }
 
 // Whether each of the urls is answered so.
@@ -184,6 +249,8 @@ fn folder_source_reads_its_files_alone(rt: HostRuntime) -> Result<(), Fail> {
     let red = source.fetch(alloc, b"images/red.ppm", b"any");
     assert!(rt; matches!(&red, Ok(Some(bytes)) if bytes.as_slice() == RED));
     assert!(rt; all_answer(alloc, &mut source, &["long"], Ok(Some(300_000))));
+    assert!(rt; all_answer(alloc, &mut source, &["empty"], Ok(Some(0))));
+    assert!(rt; all_answer(alloc, &mut source, &["longest"], Ok(Some(268_435_456))));
     let nothing = [
         "blue",
         "no/blue",
@@ -199,6 +266,13 @@ fn folder_source_reads_its_files_alone(rt: HostRuntime) -> Result<(), Fail> {
     assert!(rt; all_answer(alloc, &mut source, &failed, Err(FetchFault::Failed)));
     fs::remove_dir_all(&rt, folder.as_str())?;
     Ok(())
+}
+
+// What is no regular file is not opened.
+#[test]
+fn folder_source_opens_no_device(rt: HostRuntime) {
+    let answer = FolderSource::new(&rt, "/dev").fetch(rt.alloc(), b"null", b"");
+    assert!(rt; matches!(answer, Err(FetchFault::Failed)));
 }
 
 // The system says that such a file has no bytes.
