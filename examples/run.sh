@@ -1,16 +1,24 @@
 #!/bin/sh
-# Builds the proved program, runs it on the scripts of this folder, and compares what it prints with what has to come.
-# The first build proves every crate that the program stands on, which takes some minutes.
+# Runs the proved program on the scripts of this folder, and compares what it prints with what has to come. A program
+# that `rt ci` or an earlier run left is taken where it is newer than every source. Else it is built: that proves every
+# crate that it stands on first, which takes some minutes.
 here=$(cd "$(dirname "$0")" && pwd)
-program=$here/../crates/glide_program
-log=$(mktemp)
-(cd "$program" && rt run >"$log" 2>&1) || { cat "$log"; exit 1; }
-rm -f "$log"
+crates=$here/../crates
+built=$crates/glide_program/out/glide_program
+newer=new
+if [ -x "$built" ]; then
+    newer=$(find "$here/../crates.txt" "$crates" -name out -prune -o -type f -newer "$built" -print | head -n 1)
+fi
+if [ -n "$newer" ]; then
+    log=$(mktemp)
+    (cd "$crates/glide_program" && rt run >"$log" 2>&1) || { cat "$log"; exit 1; }
+    rm -f "$log"
+fi
 cd "$here" || exit 1
 failed=0
 for name in pictures failures sizes; do
     echo "$name.script:"
-    "$program/out/glide_program" <"$name.script" >"$name.printed"
+    "$built" <"$name.script" >"$name.printed"
     echo "(status $?)" >>"$name.printed"
     cut -c1-100 "$name.printed"
     cmp "$name.printed" "$name.out" || failed=1
