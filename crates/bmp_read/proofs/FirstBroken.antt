@@ -11,13 +11,14 @@ use Rattle.bmp_read.specs.declared.format.Format.{Format}
 use Rattle.bmp_read.specs.declared.format.Format.TheVariants.{Indexed1, Indexed4, Indexed8, Rgb555, Bgr24, Bgr32, Masked16, Masked32}
 use Rattle.bmp_read.specs.declared.format.Masks.{Masks}
 use Rattle.bmp_read.specs.declared.format.Palette.{Palette}
-use Rattle.bmp_read.specs.Reading.{◌>>=◌}
+use Rattle.picture_rows.specs.Reading.{◌>>=◌, unless_fault, fault_of}
 use Rattle.bmp_read.specs.Bytes.{u16_at, u32_at}
 use Rattle.bmp_read.specs.Header.{begins_bm, is_info_size, is_depth, stored_masks, are_masks, palette_count, info_size_at, size_at, depth_at, masks_at, palette_at, indexed, masked, direct, format_of, head_of}
 use Rattle.bmp_read.specs.Pixel.{bits_of}
-use Rattle.bmp_read.specs.Raster.{has_raster, last_rows, RowsLeft}
-use Rattle.bmp_read.specs.Full.{full_picture, full_picture_under, rows_under, unless_fault}
-use Rattle.bmp_read.specs.Rules.{Rule, unsigned, raster_end, rules, first_broken, fault_of}
+use Rattle.picture_rows.specs.RowsLeft.{RowsLeft}
+use Rattle.bmp_read.specs.Raster.{has_raster, last_rows}
+use Rattle.bmp_read.specs.Full.{full_picture, full_picture_under, rows_under}
+use Rattle.bmp_read.specs.Rules.{Rule, unsigned, raster_end, rules, first_broken}
 use Rattle.bmp_read.proofs.Heads.{rule_ok, bind_ok}
 
 -- one rule in front of others
@@ -105,7 +106,7 @@ size_rules text =
     ∷ record { kept = not (eqb (u32_at 22 text) 0 || eqb (u32_at 22 text) (2 ^ 31)); fault = BadSize }
     ∷ []
 
-both_read : {A : Type 0} (b : Bool) (x y : A) → fault_of {A = A} (cond b (Ok x) (Ok y)) ≡ None
+both_read : {A : Type 0} (b : Bool) (x y : A) → fault_of {F = BmpFault} {A = A} (cond b (Ok x) (Ok y)) ≡ None
 both_read true x y = refl
 both_read false x y = refl
 
@@ -266,13 +267,13 @@ unless None x = refl
 unless (Some d) x = refl
 
 rows_fault : (head : Head) (rows : List (List ℕ)) (b : Bool)
-    → (cond {A = RowsLeft} b record { width = head.width; rows = rows; fault = None } record { width = head.width; rows = []; fault = Some Truncated }).fault ≡ first_broken (record { kept = b; fault = Truncated } ∷ [])
+    → (cond {A = RowsLeft BmpFault} b record { width = head.width; rows = rows; fault = None } record { width = head.width; rows = []; fault = Some Truncated }).fault ≡ first_broken (record { kept = b; fault = Truncated } ∷ [])
 rows_fault head rows true = refl
 rows_fault head rows false = refl
 
 raster_fault : (head : Head) (text : List ℕ) → fault_of (full_picture_under head text) ≡ first_broken (record { kept = has_raster head text; fault = Truncated } ∷ [])
 raster_fault head text =
-    let left : RowsLeft = rows_under head text in
+    let left : RowsLeft BmpFault = rows_under head text in
     unless left.fault _ ∙ rows_fault head (last_rows head text head.height) (has_raster head text)
 
 raster_is : (text : List ℕ) (head : Head) (width bits height : ℕ) → width ≡ head.width → bits_of head.format ≡ bits → height ≡ head.height → head.raster_start ≡ u32_at 10 text

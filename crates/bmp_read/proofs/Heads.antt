@@ -10,7 +10,7 @@ use Rattle.bmp_read.specs.declared.format.Format.{Format}
 use Rattle.bmp_read.specs.declared.format.Format.TheVariants.{Indexed1, Indexed4, Indexed8, Rgb555, Bgr24, Bgr32, Masked16, Masked32}
 use Rattle.bmp_read.specs.declared.format.Masks.{Masks}
 use Rattle.bmp_read.specs.declared.format.Palette.{Palette}
-use Rattle.bmp_read.specs.Reading.{◌>>=◌}
+use Rattle.picture_rows.specs.Reading.{◌>>=◌}
 use Rattle.bmp_read.specs.Bytes.{u32_at}
 use Rattle.bmp_read.specs.Header.{info_size_at, size_at, depth_at, masks_at, palette_count, palette_at, indexed, masked, direct, format_of, head_of}
 use Rattle.bmp_read.specs.Pixel.{IsPaletteInside, HasPalette}

@@ -2,11 +2,12 @@
 use Rattle.std.proofs.Common.{◌≡◌, ℕ, zero, suc, ◌+◌, ◌-◌, ◌*◌, ◌≤◌, ◌<◌, Bool, true, false, cond, leb, List, [], ◌∷◌, length, inl, inr, None, Some, refl, sym, ap, ◌∙◌, arith}
 use Rattle.std.proofs.lemmas.Bool.Decides.{nat_tests}
 use Rattle.std.proofs.Math.Nat.{mul-le-mul_left}
+use Rattle.bmp_read.specs.declared.fault.BmpFault.{BmpFault}
 use Rattle.bmp_read.specs.declared.fault.BmpFault.TheVariants.{Truncated}
 use Rattle.bmp_read.specs.declared.header.Head.{Head}
 use Rattle.bmp_read.specs.Pixel.{pixel_at}
-use Rattle.bmp_read.specs.Raster.{RowsLeft, row_length, has_raster, stored_row, stored_index, pixels, row_at, last_rows, rows_of, with_row}
-use Rattle.bmp_read.specs.Size.{HasRows}
+use Rattle.picture_rows.specs.RowsLeft.{RowsLeft, with_row, HasRows}
+use Rattle.bmp_read.specs.Raster.{row_length, has_raster, stored_row, stored_index, pixels, row_at, last_rows, rows_of}
 
 length-last_rows : (head : Head) (text : List ℕ) (n : ℕ) → length (last_rows head text n) ≡ n
 length-last_rows head text zero = refl
@@ -23,7 +24,7 @@ row_inside head text size index is e lt =
     omega (arith, mul-le-mul_left size lt, same, all)
 
 -- the rows, by whether the raster lies inside the text
-abbrev by_raster : Head → ℕ → List ℕ → Bool → RowsLeft
+abbrev by_raster : Head → ℕ → List ℕ → Bool → RowsLeft BmpFault
 by_raster head count text inside = cond inside record { width = head.width; rows = last_rows head text count; fault = None } record { width = head.width; rows = []; fault = Some Truncated }
 
 count_by : (head : Head) (text : List ℕ) (b : Bool) → 1 ≤ head.height → HasRows head.height (by_raster head head.height text b)

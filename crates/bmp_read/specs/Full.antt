@@ -1,34 +1,22 @@
 -- The full picture of a text, or the first rule that it breaks. The picture is that of a Windows bitmap; that a broken rule has
 -- a name, and which of several comes first, is this project's own: the rules of the headers in their order, then the raster's.
-use Rattle.std.specs.Prelude.{ℕ, List, Ok, Err, Some, None, Result}
-use Rattle.std.specs.List.{concat}
-use Rattle.std.specs.declared.option.Option.{Option}
+use Rattle.std.specs.Prelude.{ℕ, List, Result}
 use Rattle.bmp_read.specs.declared.fault.BmpFault.{BmpFault}
 use Rattle.bmp_read.specs.declared.header.Head.{Head}
-use Rattle.bmp_read.specs.Reading.{◌>>=◌}
+use Rattle.picture_rows.specs.Reading.{◌>>=◌}
+use Rattle.picture_rows.specs.RowsLeft.{RowsLeft}
+use Rattle.picture_rows.specs.FullPicture.{FullPicture, full_of}
 use Rattle.bmp_read.specs.Header.{head_of}
-use Rattle.bmp_read.specs.Raster.{RowsLeft, rows_of}
-
--- a size, and red, green, blue and alpha of each pixel from the top row
-pub record FullPicture : Type 0 where
-  pub width : ℕ
-  pub height : ℕ
-  pub pixels : List ℕ
-
--- the value, or the fault that comes in its place
-abbrev pub unless_fault : {A : Type 0} → Option BmpFault → A → Result A BmpFault
-unless_fault None x = Ok x
-unless_fault (Some fault) x = Err fault
+use Rattle.picture_rows.specs.RowsLeft.{RowsLeft}
+use Rattle.bmp_read.specs.Raster.{rows_of}
 
 -- the rows that a text has behind its header; what stands behind the raster is ignored
-abbrev pub rows_under : Head → List ℕ → RowsLeft
+abbrev pub rows_under : Head → List ℕ → RowsLeft BmpFault
 rows_under head text = rows_of head head.height text
 
--- the rows one behind the other
+-- the rows one after the other
 abbrev pub full_picture_under : Head → List ℕ → Result FullPicture BmpFault
-full_picture_under head text =
-    let left = rows_under head text in
-    unless_fault left.fault record { width = head.width; height = head.height; pixels = concat left.rows }
+full_picture_under head text = full_of (head.width, head.height) (rows_under head text)
 
 -- the header's fault stands before the raster's
 abbrev pub full_picture : List ℕ → Result FullPicture BmpFault

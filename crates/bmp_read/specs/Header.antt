@@ -12,7 +12,7 @@ use Rattle.bmp_read.specs.declared.format.Format.{Format}
 use Rattle.bmp_read.specs.declared.format.Format.TheVariants.{Indexed1, Indexed4, Indexed8, Rgb555, Bgr24, Bgr32, Masked16, Masked32}
 use Rattle.bmp_read.specs.declared.format.Masks.{Masks}
 use Rattle.bmp_read.specs.declared.format.Palette.{Palette}
-use Rattle.bmp_read.specs.Reading.{◌>>=◌}
+use Rattle.picture_rows.specs.Reading.{◌>>=◌}
 use Rattle.bmp_read.specs.Bytes.{u16_at, u32_at}
 
 -- `BM`

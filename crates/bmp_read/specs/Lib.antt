@@ -1,8 +1,10 @@
-pub mod Reading
+pub use Rattle.picture_rows.specs.Reading
+pub use Rattle.picture_rows.specs.RowsLeft
+pub use Rattle.picture_rows.specs.FullPicture
+pub use Rattle.picture_rows.specs.PixelBytes
 pub mod Bytes
 pub mod Header
 pub mod Pixel
 pub mod Raster
 pub mod Full
 pub mod Rules
-pub mod Size

@@ -5,13 +5,9 @@ use Rattle.bmp_read.specs.declared.format.Format.{Format}
 use Rattle.bmp_read.specs.declared.format.Format.TheVariants.{Indexed1, Indexed4, Indexed8, Rgb555, Bgr24, Bgr32, Masked16, Masked32}
 use Rattle.bmp_read.specs.declared.format.Masks.{Masks}
 use Rattle.bmp_read.specs.declared.format.Palette.{Palette}
-use Rattle.bmp_read.specs.declared.pixel.Rgba.{Rgba}
+use Rattle.picture_rows.specs.PixelBytes.{scaled}
 use Rattle.bmp_read.specs.Bytes.{u16_at, u32_at}
 use Rattle.bmp_read.specs.Header.{moved_down}
-
--- a pixel's bytes
-abbrev pub rgba : Rgba → List ℕ
-rgba pixel = pixel.red ∷ pixel.green ∷ pixel.blue ∷ pixel.alpha ∷ []
 
 -- how many bits a pixel has
 abbrev pub bits_of : Format → ℕ
@@ -23,10 +19,6 @@ bits_of Bgr24 = 24
 bits_of Bgr32 = 32
 bits_of (Masked16 masks) = 16
 bits_of (Masked32 masks) = 32
-
--- a sample as a number up to 255: its share of the maximum, rounded, halves up
-abbrev pub scaled : ℕ → ℕ → ℕ
-scaled maximum sample = (255 * sample + maximum / 2) / maximum
 
 -- blue, green and red from this place on, as red, green, blue and an alpha that hides what is behind
 abbrev pub bgr_at : ℕ → List ℕ → List ℕ

@@ -1,14 +1,14 @@
 -- The raster, as the BMP headers of Windows have it: each row begins at a multiple of four bytes behind the raster's beginning, and the
 -- rows come from the bottom, or from the top where the height is below 0. That a raster which does not lie inside the text has
 -- no rows is this project's own.
-use Rattle.std.specs.Prelude.{◌≡◌, ℕ, zero, suc, ◌+◌, ◌-◌, ◌*◌, ◌/◌, nat_le, List, [], ◌∷◌, length, take, drop, if◌then◌else◌, Ok, Err, Some, None, Result, Bool, true, false, ⊤}
+use Rattle.std.specs.Prelude.{ℕ, zero, suc, ◌+◌, ◌-◌, ◌*◌, ◌/◌, nat_le, List, [], ◌∷◌, length, take, drop, if◌then◌else◌, Some, None, Bool}
 use Rattle.std.specs.List.{flat_map, range_with_len}
-use Rattle.std.specs.declared.option.Option.{Option}
 use Rattle.bmp_read.specs.declared.fault.BmpFault.{BmpFault}
 use Rattle.bmp_read.specs.declared.fault.BmpFault.TheVariants.{Truncated}
 use Rattle.bmp_read.specs.declared.header.Head.{Head}
 use Rattle.bmp_read.specs.declared.header.RowOrder.{RowOrder}
 use Rattle.bmp_read.specs.declared.header.RowOrder.TheVariants.{TopFirst, BottomFirst}
+use Rattle.picture_rows.specs.RowsLeft.{RowsLeft}
 use Rattle.bmp_read.specs.Pixel.{bits_of, pixel_at}
 
 -- how many bytes a stored row has: a multiple of four
@@ -41,31 +41,8 @@ abbrev pub last_rows : Head → List ℕ → ℕ → List (List ℕ)
 last_rows head text zero = []
 last_rows head text (suc below) = row_at head text (head.height - 1 - below) ∷ last_rows head text below
 
--- the rows that are left, from the top, and the fault that comes after them, if one does
-pub record RowsLeft : Type 0 where
-  pub width : ℕ
-  pub rows : List (List ℕ)
-  pub fault : Option BmpFault
-
--- a row above those that are left
-abbrev pub with_row : List ℕ → RowsLeft → RowsLeft
-with_row row left = record left { rows = row ∷ left.rows }
-
 -- the last rows, or the fault in the place of all
-abbrev pub rows_of : Head → ℕ → List ℕ → RowsLeft
+abbrev pub rows_of : Head → ℕ → List ℕ → RowsLeft BmpFault
 rows_of head count text =
     if has_raster head text then record { width = head.width; rows = last_rows head text count; fault = None }
     else record { width = head.width; rows = []; fault = Some Truncated }
-
--- What a call answers, with the row that it wrote, and what is left afterwards: the next row; or false, where none is left and
--- no fault comes; or the fault, again at each later call.
-abbrev pub RowStep : RowsLeft → Result Bool BmpFault → List ℕ → RowsLeft → Type 0
-RowStep old (Ok true) row new = old ≡ with_row row new
-RowStep old (Ok false) row new = (old.rows ≡ []) × (old.fault ≡ None) × (new ≡ old)
-RowStep old (Err fault) row new = (old.rows ≡ []) × (old.fault ≡ Some fault) × (new ≡ old)
-
--- The buffer is written only where a row comes.
-abbrev pub KeepsBuffer : Result Bool BmpFault → List ℕ → List ℕ → Type 0
-KeepsBuffer (Ok true) old new = ⊤
-KeepsBuffer (Ok false) old new = new ≡ old
-KeepsBuffer (Err fault) old new = new ≡ old

@@ -1,6 +1,6 @@
 -- The rules of Windows bitmaps in one list, each for itself and in the order in which they are tried. Which they are comes from the
 -- BMP headers of Windows; their names and their order are this project's own.
-use Rattle.std.specs.Prelude.{ℕ, ◌+◌, ◌-◌, ◌*◌, ◌/◌, ◌^◌, Bool, not, ◌&&◌, ◌||◌, ◌==◌, nat_le, nat_lt, List, [], ◌∷◌, length, if◌then◌else◌, Ok, Err, Some, None, Result}
+use Rattle.std.specs.Prelude.{ℕ, ◌+◌, ◌-◌, ◌*◌, ◌/◌, ◌^◌, Bool, not, ◌&&◌, ◌||◌, ◌==◌, nat_le, nat_lt, List, [], ◌∷◌, length, if◌then◌else◌, Some, None}
 use Rattle.std.specs.declared.option.Option.{Option}
 use Rattle.bmp_read.specs.declared.fault.BmpFault.{BmpFault}
 use Rattle.bmp_read.specs.declared.fault.BmpFault.TheVariants.{BadMagic, BadHeader, BadSize, Compressed, BadDepth, BadMasks, Truncated}
@@ -47,8 +47,3 @@ rules text =
 abbrev pub first_broken : List Rule → Option BmpFault
 first_broken [] = None
 first_broken (rule ∷ others) = if rule.kept then first_broken others else Some rule.fault
-
--- the fault that is answered, if one is
-abbrev pub fault_of : {A : Type 0} → Result A BmpFault → Option BmpFault
-fault_of (Ok x) = None
-fault_of (Err fault) = Some fault

@@ -1,16 +1,18 @@
 // Rows of colours of a fixed layout. The loops over a row stay functions of their own, so that they keep their values in
 // registers.
 ghost use Rattle.std.specs.Prelude.{◌≡◌, ◌≤◌, ◌*◌, length};
-ghost use Rattle.bmp_read.specs.Pixel.{rgba, bgr_at, rgb555};
+ghost use Rattle.picture_rows.specs.PixelBytes.{rgba_bytes};
+ghost use Rattle.bmp_read.specs.Pixel.{bgr_at, rgb555};
 ghost use Rattle.bmp_read.specs.Bytes.{u16_at};
 ghost use Rattle.bmp_read.specs.Raster.{pixels};
 
 use crate::bytes::u16_at;
-use crate::pixel::{Rgba, bgr, put_pixel, scaled};
+use crate::pixel::bgr;
+use picture_rows::{Rgba, put_pixel, scaled};
 
 // The colour of a value with five bits for each of red, green and blue.
 fn rgb555(value: u16) -> Rgba
-    ensures { rgba result ≡ rgb555 value }
+    ensures { rgba_bytes result ≡ rgb555 value }
 {
     let value = u32::from(value);
     Rgba {

@@ -1,6 +1,6 @@
 // The headers: the file header and the info header, with the masks or the palette behind them.
 ghost use Rattle.std.specs.Prelude.{◌≡◌, ◌<◌, ◌≤◌, ◌+◌, ◌⊎◌, length, IfOk};
-ghost use Rattle.bmp_read.specs.Size.{IsPictureSize};
+ghost use Rattle.picture_rows.specs.FullPicture.{IsPictureSize};
 ghost use Rattle.bmp_read.specs.Header.{begins_bm, is_info_size, info_size_at, size_at, is_depth, depth_at, masks_at, palette_count, palette_at, indexed, masked, direct, format_of, head_of};
 
 use crate::bytes::{u16_at, u32_at};
@@ -229,7 +229,7 @@ fn format(text: &[u8], info_size: u32, compression: u32, bits: u16) -> Result<Fo
 #[tactic(auto, unfolding(crate::specs::Header::head_of))]
 pub fn read_head(bytes: &[u8]) -> Result<Head, BmpFault>
     ensures head { result ≡ head_of bytes.now }
-    ensures size { IfOk result IsPictureSize }
+    ensures size { IfOk result (λ head. IsPictureSize head.width head.height) }
 {
     let info_size = info_size(bytes)?;
     let (width, height, order) = size(bytes)?;

@@ -1,17 +1,19 @@
 // Rows of indexes into a palette. The loops over a row stay functions of their own, so that they keep their values in
 // registers.
 ghost use Rattle.std.specs.Prelude.{◌≡◌, ◌≤◌, ◌<◌, ◌/◌, ◌+◌, ◌*◌, length, slice_index};
-ghost use Rattle.bmp_read.specs.Pixel.{rgba, palette_colour, index1, index4, IsPaletteInside};
+ghost use Rattle.picture_rows.specs.PixelBytes.{rgba_bytes};
+ghost use Rattle.bmp_read.specs.Pixel.{palette_colour, index1, index4, IsPaletteInside};
 ghost use Rattle.bmp_read.specs.Raster.{pixels};
 
 use crate::format::Palette;
-use crate::pixel::{Rgba, bgr, put_pixel};
+use crate::pixel::bgr;
+use picture_rows::{Rgba, put_pixel};
 
 // The colour of an index that the palette has.
 fn known_colour(text: &[u8], palette: Palette, index: u8) -> Rgba
     requires palette { IsPaletteInside palette text.now }
     requires known { index < palette.count }
-    ensures { rgba result ≡ palette_colour palette text.now index }
+    ensures { rgba_bytes result ≡ palette_colour palette text.now index }
 {
     bgr(text, palette.start + 4 * usize::from(index))
 }
@@ -19,7 +21,7 @@ fn known_colour(text: &[u8], palette: Palette, index: u8) -> Rgba
 // The colour of an index, which is opaque black where the palette has none.
 fn palette_colour(text: &[u8], palette: Palette, index: u8) -> Rgba
     requires { IsPaletteInside palette text.now }
-    ensures { rgba result ≡ palette_colour palette text.now index }
+    ensures { rgba_bytes result ≡ palette_colour palette text.now index }
 {
     if usize::from(index) < palette.count {
         return known_colour(text, palette, index);

@@ -1,14 +1,15 @@
 // Rows of colours by masks. The loops over a row stay functions of their own, so that they keep their values in
 // registers.
 ghost use Rattle.std.specs.Prelude.{◌≡◌, ◌≤◌, ◌*◌, length};
-ghost use Rattle.bmp_read.specs.Pixel.{rgba, channel, masked_colour};
+ghost use Rattle.picture_rows.specs.PixelBytes.{rgba_bytes};
+ghost use Rattle.bmp_read.specs.Pixel.{channel, masked_colour};
 ghost use Rattle.bmp_read.specs.Bytes.{u16_at, u32_at};
 ghost use Rattle.bmp_read.specs.Raster.{pixels};
 
 use crate::bytes::{u16_at, u32_at};
 use crate::format::Masks;
 use crate::masks::moved_down;
-use crate::pixel::{Rgba, put_pixel, scaled};
+use picture_rows::{Rgba, put_pixel, scaled};
 
 // The channel of a value that this mask says, or `absent` where the mask is 0.
 fn channel(mask: u32, absent: u8, value: u32) -> u8
@@ -27,7 +28,7 @@ fn channel(mask: u32, absent: u8, value: u32) -> u8
 }
 
 fn masked_colour(masks: Masks, value: u32) -> Rgba
-    ensures { rgba result ≡ masked_colour masks value }
+    ensures { rgba_bytes result ≡ masked_colour masks value }
 {
     Rgba {
         red: channel(masks.red, 0, value),

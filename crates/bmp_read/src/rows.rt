@@ -1,9 +1,9 @@
 // The rows of the raster, from the top.
-ghost use Rattle.std.specs.Prelude.{◌≡◌, ◌≤◌, ◌<◌, ◌-◌, ◌+◌, ◌*◌, length, Ok, IsTrue};
+ghost use Rattle.std.specs.Prelude.{◌≡◌, ◌≤◌, ◌<◌, ◌-◌, ◌+◌, ◌*◌, false, length, Ok, IsTrue};
 ghost use Rattle.bmp_read.specs.Header.{head_of};
 ghost use Rattle.bmp_read.specs.Pixel.{bits_of, pixel_at, HasPalette};
-ghost use Rattle.bmp_read.specs.Raster.{row_length, has_raster, stored_row, stored_index, pixels, row_at, RowStep, KeepsBuffer};
-ghost use Rattle.bmp_read.specs.Size.{HasRows};
+ghost use Rattle.picture_rows.specs.RowsLeft.{RowStep, HasRows};
+ghost use Rattle.bmp_read.specs.Raster.{row_length, has_raster, stored_row, stored_index, pixels, row_at};
 ghost use Rattle.bmp_read.specs.Full.{rows_under};
 
 use crate::direct::{write_bgr24, write_bgr32, write_rgb555};
@@ -26,9 +26,11 @@ pub struct Rows<'a> {
 impl<'a> Model for Rows<'a> {
     ghost use Rattle.std.specs.Prelude.{◌≤◌};
     ghost use Rattle.bmp_read.specs.Pixel.{HasPalette};
-    ghost use Rattle.bmp_read.specs.Raster.{RowsLeft, rows_of};
+    ghost use Rattle.picture_rows.specs.RowsLeft.{RowsLeft};
+    ghost use Rattle.bmp_read.specs.declared.fault.BmpFault.{BmpFault};
+    ghost use Rattle.bmp_read.specs.Raster.{rows_of};
 
-    ghost Value = { RowsLeft };
+    ghost Value = { RowsLeft BmpFault };
 
     ghost view = { λ s. rows_of s.head s.height_left s.text.now };
 
@@ -139,11 +141,11 @@ impl<'a> Rows<'a> {
     /// false.
     ///
     /// `Truncated` comes in the place of the first row, and again at each later call, where the
-    /// raster does not lie inside the text.
+    /// raster does not lie inside the text; what it leaves in the buffer is any bytes.
     pub fn next_row(&mut self, into: &mut [u8]) -> Result<bool, BmpFault>
         requires { length into.old ≡ 4 * self.old.width }
         ensures step { RowStep self.old result into.new self.new }
-        ensures buffer { KeepsBuffer result into.old into.new }
+        ensures buffer { result ≡ Ok false → into.new ≡ into.old }
     {
         if !has_raster(self.text, self.head) {
             return Err(BmpFault::Truncated);

@@ -1,7 +1,8 @@
 // Which fault a text has, by the list of the rules.
 ghost use Rattle.std.specs.Prelude.{◌≡◌, ℕ, List};
 ghost use Rattle.bmp_read.specs.Full.{full_picture};
-ghost use Rattle.bmp_read.specs.Rules.{rules, first_broken, fault_of};
+ghost use Rattle.picture_rows.specs.Reading.{fault_of};
+ghost use Rattle.bmp_read.specs.Rules.{rules, first_broken};
 
 /// A law that does no work: the fault of a text is that of the first of the rules that it breaks,
 /// and a text that breaks none has its picture. `read_head` and `Rows` are held to the same

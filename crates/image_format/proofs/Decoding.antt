@@ -4,7 +4,7 @@ use Rattle.std.specs.List.{concat}
 use Rattle.std.specs.declared.option.Option.{Option}
 use Rattle.bitmap_kind.specs.Stored.{stored}
 use Rattle.bitmap_kind.specs.Picture.{Picture}
-use Rattle.ppm_read.specs.Full.{FullPicture}
+use Rattle.picture_rows.specs.FullPicture.{FullPicture}
 use Rattle.sampling.specs.Sample.{sample_of}
 use Rattle.sampling.specs.Sampled.{sampled_side, sampled_picture}
 use Rattle.transforms.specs.Moved.{moved}

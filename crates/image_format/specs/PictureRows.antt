@@ -1,11 +1,12 @@
 -- The rows of a picture of either kind that are left while it is read. It is this project's own, in the words of the two readers.
-use Rattle.std.specs.Prelude.{◌≡◌, ℕ, ◌<◌, ◌⊎◌, ⊤, Bool, true, false, List, [], ◌∷◌, length, Ok, Err, Some, None, IsSome, Result}
+use Rattle.std.specs.Prelude.{◌≡◌, ℕ, ◌<◌, ◌⊎◌, Bool, true, false, List, [], ◌∷◌, length, Ok, Err, Some, None, IsSome, Result}
 use Rattle.std.specs.List.{concat}
 use Rattle.std.specs.Option.{option_map}
 use Rattle.std.specs.declared.option.Option.{Option}
-use Rattle.ppm_read.specs.Full.{FullPicture}
-use Rattle.ppm_read.specs.Raster as ppm_raster
-use Rattle.bmp_read.specs.Raster as bmp_raster
+use Rattle.picture_rows.specs.FullPicture.{FullPicture}
+use Rattle.ppm_read.specs.declared.fault.PpmFault.{PpmFault}
+use Rattle.bmp_read.specs.declared.fault.BmpFault.{BmpFault}
+use Rattle.picture_rows.specs.RowsLeft as shared
 use Rattle.image_format.specs.declared.refusal.Refusal as code_refusal
 use Rattle.image_format.specs.declared.rows.PictureRows.{PictureRows}
 use Rattle.image_format.specs.declared.rows.PictureRows.TheVariants as kinds
@@ -19,11 +20,11 @@ pub record RowsLeft : Type 0 where
   pub refusal : Option Refusal
 
 -- those of a Netpbm text
-abbrev pub ppm_rows : ppm_raster.RowsLeft → RowsLeft
+abbrev pub ppm_rows : shared.RowsLeft PpmFault → RowsLeft
 ppm_rows left = record { width = left.width; rows = left.rows; refusal = option_map ppm_refusal left.fault }
 
 -- those of a Windows bitmap
-abbrev pub bmp_rows : bmp_raster.RowsLeft → RowsLeft
+abbrev pub bmp_rows : shared.RowsLeft BmpFault → RowsLeft
 bmp_rows left = record { width = left.width; rows = left.rows; refusal = option_map bmp_refusal left.fault }
 
 -- those of either reader
@@ -45,12 +46,6 @@ abbrev pub RowStep : RowsLeft → Result Bool code_refusal.Refusal → List ℕ 
 RowStep old (Ok true) row new = old ≡ with_row row new
 RowStep old (Ok false) row new = (old.rows ≡ []) × (old.refusal ≡ None) × (new ≡ old)
 RowStep old (Err refusal) row new = (old.rows ≡ []) × (old.refusal ≡ Some (refusal_by refusal)) × (new ≡ old)
-
--- The buffer is written only where a row comes.
-abbrev pub KeepsBuffer : Result Bool code_refusal.Refusal → List ℕ → List ℕ → Type 0
-KeepsBuffer (Ok true) old new = ⊤
-KeepsBuffer (Ok false) old new = new ≡ old
-KeepsBuffer (Err refusal) old new = new ≡ old
 
 -- the value, or the refusal that comes in its place
 abbrev pub unless_refused : {A : Type 0} → Option Refusal → A → Result A Refusal

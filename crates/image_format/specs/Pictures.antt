@@ -8,7 +8,7 @@ use Rattle.ppm_read.specs.declared.fault.PpmFault.{PpmFault}
 use Rattle.ppm_read.specs.declared.fault.PpmFault.TheVariants as ppm_faults
 use Rattle.ppm_read.specs.declared.header.Head as ppm_head
 use Rattle.ppm_read.specs.Header as ppm_header
-use Rattle.ppm_read.specs.Full.{FullPicture}
+use Rattle.picture_rows.specs.FullPicture.{FullPicture}
 use Rattle.ppm_read.specs.Full as ppm_full
 use Rattle.bmp_read.specs.declared.fault.BmpFault.{BmpFault}
 use Rattle.bmp_read.specs.declared.fault.BmpFault.TheVariants as bmp_faults
@@ -62,8 +62,8 @@ ppm_picture (Ok full) = Ok full
 ppm_picture (Err fault) = Err (ppm_refusal fault)
 
 -- that of a Windows bitmap
-abbrev pub bmp_picture : Result bmp_full.FullPicture BmpFault → Result FullPicture Refusal
-bmp_picture (Ok full) = Ok record { width = full.width; height = full.height; pixels = full.pixels }
+abbrev pub bmp_picture : Result FullPicture BmpFault → Result FullPicture Refusal
+bmp_picture (Ok full) = Ok full
 bmp_picture (Err fault) = Err (bmp_refusal fault)
 
 -- ---- the sizes, which are a width and a height

@@ -1,11 +1,11 @@
 // The rows of a picture of either kind.
-ghost use Rattle.std.specs.Prelude.{◌≡◌, ◌*◌, length, Ok};
+ghost use Rattle.std.specs.Prelude.{◌≡◌, ◌*◌, false, length, Ok};
 ghost use Rattle.ppm_read.specs.Header as ppm_header;
 ghost use Rattle.ppm_read.specs.Full as ppm_full;
 ghost use Rattle.bmp_read.specs.Header as bmp_header;
 ghost use Rattle.bmp_read.specs.Full as bmp_full;
 ghost use Rattle.image_format.specs.Pictures.{ppm_picture, bmp_picture};
-ghost use Rattle.image_format.specs.PictureRows.{rows_by, HasRows, RowStep, KeepsBuffer, full_of};
+ghost use Rattle.image_format.specs.PictureRows.{rows_by, HasRows, RowStep, full_of};
 
 use crate::refusal::Refusal;
 
@@ -42,7 +42,7 @@ impl<'a> PictureRows<'a> {
     pub fn next_row(&mut self, into: &mut [u8]) -> Result<bool, Refusal>
         requires { length into.old ≡ 4 * (rows_by self.old).width }
         ensures step { RowStep (rows_by self.old) result into.new (rows_by self.new) }
-        ensures buffer { KeepsBuffer result into.old into.new }
+        ensures buffer { result ≡ Ok false → into.new ≡ into.old }
     {
         match self {
             PictureRows::Ppm(rows) => match rows.next_row(into) {

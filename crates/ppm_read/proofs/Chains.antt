@@ -1,7 +1,7 @@
 -- Reading part after part.
 use Rattle.std.proofs.Common.{◌≡◌, ◌⊎◌, inl, inr, Bool, true, false, cond, Result, Ok, Err, refl, ap}
 use Rattle.ppm_read.specs.declared.fault.PpmFault.{PpmFault}
-use Rattle.ppm_read.specs.Reading.{◌>>=◌}
+use Rattle.picture_rows.specs.Reading.{◌>>=◌}
 
 pub bind_ok : {A B : Type 0} (r : Result A PpmFault) (f : A → Result B PpmFault) (y : B) → (r >>= f) ≡ Ok y → (x : A) × (r ≡ Ok x) × (f x ≡ Ok y)
 bind_ok (Ok x) f y e = (x, refl, e)

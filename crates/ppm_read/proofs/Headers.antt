@@ -10,7 +10,7 @@ use Rattle.ppm_read.specs.declared.header.Channels.{Channels}
 use Rattle.ppm_read.specs.declared.header.Format.{Format}
 use Rattle.ppm_read.specs.declared.header.Format.TheVariants.{Plain, Raw}
 use Rattle.ppm_read.specs.declared.header.Head.{Head}
-use Rattle.ppm_read.specs.Reading.{◌>>=◌}
+use Rattle.picture_rows.specs.Reading.{◌>>=◌}
 use Rattle.ppm_read.specs.Number.{is_white, begins_comment, is_digit, missing_at, begins_with, is_cut}
 use Rattle.ppm_read.specs.Header.{kind_of, magic_at, part_at, size_at, maximum_at, raster_at, head_of}
 use Rattle.ppm_read.specs.Spelling.{IsPart, IsEnd, IsHeader}

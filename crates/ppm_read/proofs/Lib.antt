@@ -9,7 +9,6 @@ pub mod Pixels
 pub mod PlainRows
 pub mod RasterFaults
 pub mod Rasters
-pub mod Reciprocals
 pub mod RawRows
 pub mod RawSamples
 pub mod RowSteps

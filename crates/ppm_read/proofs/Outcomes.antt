@@ -7,10 +7,10 @@ use Rattle.ppm_read.specs.declared.fault.PpmFault.{PpmFault}
 use Rattle.ppm_read.specs.declared.header.Format.{Format}
 use Rattle.ppm_read.specs.declared.header.Format.TheVariants.{Plain, Raw}
 use Rattle.ppm_read.specs.declared.header.Head.{Head}
-use Rattle.ppm_read.specs.Reading.{◌>>=◌}
+use Rattle.picture_rows.specs.Reading.{◌>>=◌, unless_fault}
 use Rattle.ppm_read.specs.Header.{head_of}
 use Rattle.ppm_read.specs.Raster.{channel_count, samples_at, rows_of}
-use Rattle.ppm_read.specs.Full.{unless_fault, rows_under, full_picture_under, full_picture}
+use Rattle.ppm_read.specs.Full.{rows_under, full_picture_under, full_picture}
 use Rattle.ppm_read.specs.Breaking.{BeginsSamples, sample_count, Breaks, no_magic, in_width, in_height, no_size, in_maximum, no_maximum, no_end, in_raster}
 use Rattle.ppm_read.proofs.Chains.{bind_err, bind_fails}
 use Rattle.ppm_read.proofs.Headers.{header_front, header_spelled, placed, BeginsRaster}

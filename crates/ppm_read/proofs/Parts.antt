@@ -8,7 +8,7 @@ use Rattle.std.specs.List.{list_all, flat_map, take_while, prefix_len}
 use Rattle.std.specs.Str.Parse.{digits_value}
 use Rattle.ppm_read.specs.declared.fault.PpmFault.{PpmFault}
 use Rattle.ppm_read.specs.declared.fault.PpmFault.TheVariants.{BadNumber, Truncated}
-use Rattle.ppm_read.specs.Reading.{◌>>=◌}
+use Rattle.picture_rows.specs.Reading.{◌>>=◌}
 use Rattle.ppm_read.specs.Number.{is_white, is_line_end, begins_comment, is_digit, behind, behind_gap, behind_comment, missing_at, begins_with, is_cut, number_at}
 use Rattle.ppm_read.specs.Header.{part_at}
 use Rattle.ppm_read.specs.Spelling.{GapPart, White, Comment, gap_bytes, is_gap_part, IsGap}

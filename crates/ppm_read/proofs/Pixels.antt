@@ -3,7 +3,8 @@ use Rattle.std.proofs.Common.{◌≡◌, ℕ, zero, suc, ◌+◌, ◌*◌, ◌<�
 use Rattle.std.proofs.lemmas.List.{drop_more, drop-drop, drop-map, take-append-drop, take_all, drop_all, get_or-map, length-map}
 use Rattle.ppm_read.specs.declared.header.Channels.{Channels}
 use Rattle.ppm_read.specs.declared.header.Channels.TheVariants.{Grey, Colour}
-use Rattle.ppm_read.specs.Raster.{channel_count, scaled, rgba}
+use Rattle.picture_rows.specs.PixelBytes.{scaled}
+use Rattle.ppm_read.specs.Raster.{channel_count, rgba}
 
 -- the samples of one pixel and those behind them
 rgba-first : (channels : Channels) (s : List ℕ) → channel_count channels ≤ length s → rgba channels s ≡ rgba channels (take (channel_count channels) s) ++ rgba channels (drop (channel_count channels) s)

@@ -9,8 +9,9 @@ use Rattle.ppm_read.specs.declared.header.Channels.TheVariants.{Grey, Colour}
 use Rattle.ppm_read.specs.declared.header.Format.{Format}
 use Rattle.ppm_read.specs.declared.header.Format.TheVariants.{Plain}
 use Rattle.ppm_read.specs.declared.header.Head.{Head}
-use Rattle.ppm_read.specs.Reading.{◌>>=◌}
-use Rattle.ppm_read.specs.Raster.{sample_at, samples_at, channel_count, scaled, rgba, pixels_at, behind_row}
+use Rattle.picture_rows.specs.Reading.{◌>>=◌}
+use Rattle.picture_rows.specs.PixelBytes.{scaled}
+use Rattle.ppm_read.specs.Raster.{sample_at, samples_at, channel_count, rgba, pixels_at}
 use Rattle.ppm_read.specs.Plain.{grey_pixel_at, colour_pixel_at}
 use Rattle.ppm_read.proofs.Chains.{bind_ok, bind_assoc, bind_same}
 use Rattle.ppm_read.proofs.Pixels.{rgba-append}
@@ -158,10 +159,6 @@ pixels_at-colour head last text plain colour =
     ∙ three_samples m (sample_at Plain m false text) (sample_at Plain m false) (sample_at Plain m last)
 
 -- what a pixel says of the row
-behind_after : (front : List ℕ) (read : Result (List ℕ × List ℕ) PpmFault) → behind_row (after front read) ≡ behind_row read
-behind_after front (Ok x) = refl
-behind_after front (Err d) = refl
-
 after-append : (a b : List ℕ) (read : Result (List ℕ × List ℕ) PpmFault) → after (a ++ b) read ≡ after a (after b read)
 after-append a b (Ok x) = ap (λ l. Ok (l, x.1)) (append_assoc a b x.0)
 after-append a b (Err d) = refl
@@ -174,19 +171,6 @@ pixel_reads head last width x text next pixel flag lt e read =
 pixel_fails : (head : Head) (last : Bool) (width x : ℕ) (text : List ℕ) (flag : Bool) (d : PpmFault) → x < width → flag ≡ (last && eqb (x + 1) width) → pixels_at head flag 1 text ≡ Err d → pixels_at head last (width - x) text ≡ Err d
 pixel_fails head last width x text flag d lt e read =
     pixels_more head last width x text lt ∙ ap (λ r. r >>= (λ found. after found.0 (pixels_at head last (width - (x + 1)) found.1))) (ap (λ l. pixels_at head l 1 text) (sym e) ∙ read)
-
--- what is behind a row, pixel by pixel
-pub behind_more : (head : Head) (last : Bool) (width x : ℕ) (text next pixel : List ℕ) (flag : Bool) (whole : Result (List ℕ) PpmFault) → x < width → flag ≡ (last && eqb (x + 1) width) → pixels_at head flag 1 text ≡ Ok (pixel, next)
-    → behind_row (pixels_at head last (width - x) text) ≡ whole → behind_row (pixels_at head last (width - (x + 1)) next) ≡ whole
-behind_more head last width x text next pixel flag whole lt e read so_far =
-    sym (behind_after pixel (pixels_at head last (width - (x + 1)) next)) ∙ ap behind_row (sym (pixel_reads head last width x text next pixel flag lt e read)) ∙ so_far
-
-pub behind_fails : (head : Head) (last : Bool) (width x : ℕ) (text : List ℕ) (flag : Bool) (d : PpmFault) (whole : Result (List ℕ) PpmFault) → x < width → flag ≡ (last && eqb (x + 1) width) → pixels_at head flag 1 text ≡ Err d
-    → behind_row (pixels_at head last (width - x) text) ≡ whole → whole ≡ Err d
-behind_fails head last width x text flag d whole lt e read so_far = sym so_far ∙ ap behind_row (pixel_fails head last width x text flag d lt e read)
-
-pub behind_all : (head : Head) (last : Bool) (width x : ℕ) (text : List ℕ) (whole : Result (List ℕ) PpmFault) → width ≤ x → behind_row (pixels_at head last (width - x) text) ≡ whole → whole ≡ Ok text
-behind_all head last width x text whole le so_far = sym so_far ∙ ap behind_row (pixels_none head last (width - x) text (omega arith))
 
 -- a row in the buffer, pixel by pixel
 pub written_more : (head : Head) (last : Bool) (width x : ℕ) (text next pixel old new : List ℕ) (flag : Bool) (whole : Result (List ℕ × List ℕ) PpmFault) → x < width → flag ≡ (last && eqb (x + 1) width) → pixels_at head flag 1 text ≡ Ok (pixel, next)

@@ -11,9 +11,11 @@ use Rattle.ppm_read.specs.declared.fault.PpmFault.TheVariants.{BadNumber, Sample
 use Rattle.ppm_read.specs.declared.header.Format.{Format}
 use Rattle.ppm_read.specs.declared.header.Format.TheVariants.{Plain, Raw}
 use Rattle.ppm_read.specs.declared.header.Head.{Head}
-use Rattle.ppm_read.specs.Reading.{◌>>=◌}
+use Rattle.picture_rows.specs.Reading.{◌>>=◌}
 use Rattle.ppm_read.specs.Number.{is_white, behind, missing_at, begins_with, number_at}
-use Rattle.ppm_read.specs.Raster.{byte_at, word_at, plain_at, spelled_at, at_most, sample_at, samples_at, scaled, rgba, pixels_at, RowsLeft, row_then, rows_of}
+use Rattle.picture_rows.specs.PixelBytes.{scaled}
+use Rattle.picture_rows.specs.RowsLeft.{RowsLeft}
+use Rattle.ppm_read.specs.Raster.{byte_at, word_at, plain_at, spelled_at, at_most, sample_at, samples_at, rgba, pixels_at, row_then, rows_of}
 use Rattle.ppm_read.specs.Spelling.{AreSamples}
 use Rattle.ppm_read.specs.Breaking.{AreDigits, AreWhite, MayStand, SampleBreaks, bytes_end, white_ends, digits_end, no_white, no_sample, large_sample, above}
 use Rattle.ppm_read.proofs.Chains.{bind_err, err_inside}
@@ -209,7 +211,7 @@ fault_after : (front : List ℕ) (read : Result (List ℕ × List ℕ) PpmFault)
 fault_after front (Ok x) = refl
 fault_after front (Err d) = refl
 
-then_fault : (w : ℕ) (as_row : List ℕ × List ℕ → List ℕ × List ℕ) (below : List ℕ → RowsLeft) (others : List ℕ → Result (List ℕ × List ℕ) PpmFault) (r : Result (List ℕ × List ℕ) PpmFault)
+then_fault : (w : ℕ) (as_row : List ℕ × List ℕ → List ℕ × List ℕ) (below : List ℕ → RowsLeft PpmFault) (others : List ℕ → Result (List ℕ × List ℕ) PpmFault) (r : Result (List ℕ × List ℕ) PpmFault)
     → ((x : List ℕ × List ℕ) → (as_row x).1 ≡ x.1) → ((rest : List ℕ) → (below rest).fault ≡ fault_of (others rest))
     → (row_then w (r >>= (λ x. Ok (as_row x))) below).fault ≡ fault_of (r >>= (λ front. after front.0 (others front.1)))
 then_fault w as_row below others (Err d) same rest = refl

@@ -11,9 +11,11 @@ use Rattle.ppm_read.specs.declared.fault.PpmFault.TheVariants.{SampleAbove}
 use Rattle.ppm_read.specs.declared.header.Format.{Format}
 use Rattle.ppm_read.specs.declared.header.Format.TheVariants.{Plain, Raw}
 use Rattle.ppm_read.specs.declared.header.Head.{Head}
-use Rattle.ppm_read.specs.Reading.{◌>>=◌}
+use Rattle.picture_rows.specs.Reading.{◌>>=◌}
 use Rattle.ppm_read.specs.Number.{is_white, begins_comment, is_digit, behind, missing_at, begins_with, is_cut, number_at}
-use Rattle.ppm_read.specs.Raster.{byte_at, word_at, plain_at, spelled_at, at_most, sample_at, samples_at, channel_count, scaled, rgba, pixels_at, row_at, RowsLeft, with_row, row_then, rows_of}
+use Rattle.picture_rows.specs.PixelBytes.{scaled}
+use Rattle.picture_rows.specs.RowsLeft.{RowsLeft, with_row}
+use Rattle.ppm_read.specs.Raster.{byte_at, word_at, plain_at, spelled_at, at_most, sample_at, samples_at, channel_count, rgba, pixels_at, row_at, row_then, rows_of}
 use Rattle.ppm_read.specs.Spelling.{IsRawSample, IsSample, AreSamples}
 use Rattle.ppm_read.proofs.Chains.{bind_ok, cond_ok, inside}
 use Rattle.ppm_read.proofs.Gaps.{begins_gap, cond_err, and_both, digit_first, front_passes, front_is, number_front, number_spelled}
@@ -268,7 +270,7 @@ rows_then head h text (Ok x) e fine below =
       ends = λ some lt. last_row head.format h x.1 more.rest (row.ends some) (more.ends some) more.none;
       none = λ z. absurd (omega arith);
       spelled = row.spelled ∙ ap (λ l. row.bytes ++ l) more.spelled ∙ sym (append_assoc row.bytes more.bytes more.rest);
-      pixels = ap (λ (l : RowsLeft). concat l.rows) rows
+      pixels = ap (λ (l : RowsLeft PpmFault). concat l.rows) rows
           ∙ (λ i. row.pixels i ++ more.pixels i)
           ∙ sym (ap (rgba head.channels) (map-append (scaled head.maximum) row.samples more.samples) ∙ rgba-append head.channels head.width (map (scaled head.maximum) row.samples) (map (scaled head.maximum) more.samples) length_row);
     }
@@ -332,8 +334,8 @@ rows_spelled head (suc h) s bytes rest some are count ends =
     ap (λ t. rows_of head (suc h) t) text_is ∙ ap (λ r. row_then head.width r (λ rest. rows_of head h rest)) row in
     let length_row : length (map (scaled head.maximum) (take k s)) ≡ channel_count head.channels * head.width = length-map (take k s) (scaled head.maximum) ∙ front in
     record {
-      fine = ap (λ (l : RowsLeft). l.fault) rows ∙ below.fine;
-      pixels = ap (λ (l : RowsLeft). concat l.rows) rows
+      fine = ap (λ (l : RowsLeft PpmFault). l.fault) rows ∙ below.fine;
+      pixels = ap (λ (l : RowsLeft PpmFault). concat l.rows) rows
           ∙ ap (λ l. rgba head.channels (map (scaled head.maximum) (take k s)) ++ l) below.pixels
           ∙ sym (rgba-append head.channels head.width (map (scaled head.maximum) (take k s)) (map (scaled head.maximum) (drop k s)) length_row)
           ∙ ap (rgba head.channels) (sym (map-append (scaled head.maximum) (take k s) (drop k s)) ∙ ap (map (scaled head.maximum)) (take-append-drop k s));

@@ -8,8 +8,9 @@ use Rattle.ppm_read.specs.declared.fault.PpmFault.TheVariants.{SampleAbove, Trun
 use Rattle.ppm_read.specs.declared.header.Format.{Format}
 use Rattle.ppm_read.specs.declared.header.Format.TheVariants.{Raw}
 use Rattle.ppm_read.specs.declared.header.Head.{Head}
-use Rattle.ppm_read.specs.Reading.{◌>>=◌}
-use Rattle.ppm_read.specs.Raster.{samples_at, channel_count, scaled, rgba, pixels_at, row_at}
+use Rattle.picture_rows.specs.Reading.{◌>>=◌}
+use Rattle.picture_rows.specs.PixelBytes.{scaled}
+use Rattle.ppm_read.specs.Raster.{samples_at, channel_count, rgba, pixels_at, row_at}
 use Rattle.ppm_read.specs.Raw.{sample_length, raw_samples}
 use Rattle.ppm_read.proofs.RawSamples.{outcome, all_at, samples_at-raw, length-raw_samples}
 

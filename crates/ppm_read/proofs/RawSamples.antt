@@ -6,7 +6,7 @@ use Rattle.std.specs.List.{list_any}
 use Rattle.ppm_read.specs.declared.fault.PpmFault.{PpmFault}
 use Rattle.ppm_read.specs.declared.fault.PpmFault.TheVariants.{SampleAbove, Truncated}
 use Rattle.ppm_read.specs.declared.header.Format.TheVariants.{Raw}
-use Rattle.ppm_read.specs.Reading.{◌>>=◌}
+use Rattle.picture_rows.specs.Reading.{◌>>=◌}
 use Rattle.ppm_read.specs.Raster.{byte_at, word_at, at_most, samples_at}
 use Rattle.ppm_read.specs.Raw.{words, sample_length, raw_samples}
 

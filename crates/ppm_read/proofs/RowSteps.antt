@@ -5,11 +5,11 @@ use Rattle.std.proofs.lemmas.Bool.Decides.{nat_tests}
 use Rattle.ppm_read.specs.declared.fault.PpmFault.{PpmFault}
 use Rattle.ppm_read.specs.declared.header.Head.{Head}
 use Rattle.ppm_read.specs.Header.{magic_at, part_at, size_at, maximum_at, raster_at, head_of}
-use Rattle.ppm_read.specs.Raster.{row_at, RowsLeft, with_row, row_then, rows_of}
-use Rattle.ppm_read.specs.Size.{HasRows}
+use Rattle.picture_rows.specs.RowsLeft.{RowsLeft, with_row, HasRows}
+use Rattle.ppm_read.specs.Raster.{row_at, row_then, rows_of}
 use Rattle.ppm_read.proofs.Chains.{bind_ok, cond_ok, inside}
 
-width_then : (w : ℕ) (row : Result (List ℕ × List ℕ) PpmFault) (below : List ℕ → RowsLeft) → ((rest : List ℕ) → (below rest).width ≡ w) → (row_then w row below).width ≡ w
+width_then : (w : ℕ) (row : Result (List ℕ × List ℕ) PpmFault) (below : List ℕ → RowsLeft PpmFault) → ((rest : List ℕ) → (below rest).width ≡ w) → (row_then w row below).width ≡ w
 width_then w (Ok row) below same = same row.1
 width_then w (Err fault) below same = refl
 
@@ -18,11 +18,11 @@ width-rows_of head zero text = refl
 width-rows_of head (suc h) text = width_then head.width (row_at head (eqb h 0) text) (λ rest. rows_of head h rest) (λ rest. width-rows_of head h rest)
 
 -- one row more
-grown : (h : ℕ) (row : List ℕ) (left : RowsLeft) → HasRows h left → HasRows (suc h) (with_row row left)
+grown : (h : ℕ) (row : List ℕ) (left : RowsLeft PpmFault) → HasRows h left → HasRows (suc h) (with_row row left)
 grown h row left (inl all) = inl (ap suc all.0, all.1)
 grown h row left (inr fewer) = inr (omega (arith, fewer.0), fewer.1)
 
-count_then : (w h : ℕ) (row : Result (List ℕ × List ℕ) PpmFault) (below : List ℕ → RowsLeft) → ((rest : List ℕ) → HasRows h (below rest)) → HasRows (suc h) (row_then w row below)
+count_then : (w h : ℕ) (row : Result (List ℕ × List ℕ) PpmFault) (below : List ℕ → RowsLeft PpmFault) → ((rest : List ℕ) → HasRows h (below rest)) → HasRows (suc h) (row_then w row below)
 count_then w h (Ok row) below count = grown h row.0 (below row.1) (count row.1)
 count_then w h (Err fault) below count = inr (omega arith, refl)
 

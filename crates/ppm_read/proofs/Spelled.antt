@@ -10,10 +10,11 @@ use Rattle.ppm_read.specs.declared.header.Channels.TheVariants.{Grey, Colour}
 use Rattle.ppm_read.specs.declared.header.Format.{Format}
 use Rattle.ppm_read.specs.declared.header.Format.TheVariants.{Plain, Raw}
 use Rattle.ppm_read.specs.declared.header.Head.{Head}
-use Rattle.ppm_read.specs.Reading.{◌>>=◌}
+use Rattle.picture_rows.specs.Reading.{◌>>=◌, unless_fault}
 use Rattle.ppm_read.specs.Header.{head_of}
 use Rattle.ppm_read.specs.Raster.{channel_count, rows_of}
-use Rattle.ppm_read.specs.Full.{FullPicture, unless_fault, rows_under, full_picture_under, full_picture}
+use Rattle.picture_rows.specs.FullPicture.{FullPicture}
+use Rattle.ppm_read.specs.Full.{rows_under, full_picture_under, full_picture}
 use Rattle.ppm_read.specs.Spelling.{AreSamples, MayFollow, IsSpelled}
 use Rattle.ppm_read.proofs.Chains.{bind_ok, inside}
 use Rattle.ppm_read.proofs.Headers.{header_front, header_spelled, placed, BeginsRaster, starts_gap, starts_white}

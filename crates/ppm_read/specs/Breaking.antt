@@ -14,7 +14,7 @@ use Rattle.ppm_read.specs.Header.{kind_of}
 use Rattle.ppm_read.specs.Raster.{channel_count}
 use Rattle.ppm_read.specs.Raw.{sample_length}
 use Rattle.ppm_read.specs.Spelling.{GapPart, gap_bytes, is_gap_part, IsGap, IsPart, IsHeader, IsSample, AreSamples, IsSpelled}
-use Rattle.ppm_read.specs.Full.{FullPicture}
+use Rattle.picture_rows.specs.FullPicture.{FullPicture}
 
 -- more text stands behind a number, and begins with no digit
 abbrev pub goes_on : List ℕ → Bool

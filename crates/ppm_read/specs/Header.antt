@@ -9,7 +9,7 @@ use Rattle.ppm_read.specs.declared.header.Channels.TheVariants.{Grey, Colour}
 use Rattle.ppm_read.specs.declared.header.Format.{Format}
 use Rattle.ppm_read.specs.declared.header.Format.TheVariants.{Plain, Raw}
 use Rattle.ppm_read.specs.declared.header.Head.{Head}
-use Rattle.ppm_read.specs.Reading.{◌>>=◌}
+use Rattle.picture_rows.specs.Reading.{◌>>=◌}
 use Rattle.ppm_read.specs.Number.{is_white, missing_at, begins_with, gap_at, number_at}
 
 -- the kinds: `P2` is plain grey, `P3` plain colour, `P5` raw grey and `P6` raw colour

@@ -1,11 +1,12 @@
-pub mod Reading
+pub use Rattle.picture_rows.specs.Reading
+pub use Rattle.picture_rows.specs.RowsLeft
+pub use Rattle.picture_rows.specs.FullPicture
+pub use Rattle.picture_rows.specs.PixelBytes
 pub mod Number
 pub mod Header
 pub mod Raster
 pub mod Raw
-pub mod Scale
 pub mod Plain
 pub mod Full
 pub mod Spelling
-pub mod Size
 pub mod Breaking

@@ -2,8 +2,9 @@
 use Rattle.std.specs.Prelude.{ℕ, Bool, false, List, [], ◌∷◌, Ok, Result}
 use Rattle.ppm_read.specs.declared.fault.PpmFault.{PpmFault}
 use Rattle.ppm_read.specs.declared.header.Format.TheVariants.{Plain}
-use Rattle.ppm_read.specs.Reading.{◌>>=◌}
-use Rattle.ppm_read.specs.Raster.{sample_at, scaled}
+use Rattle.picture_rows.specs.Reading.{◌>>=◌}
+use Rattle.picture_rows.specs.PixelBytes.{scaled}
+use Rattle.ppm_read.specs.Raster.{sample_at}
 
 -- one sample, as each of the colours
 abbrev pub grey_pixel_at : ℕ → Bool → List ℕ → Result (List ℕ × List ℕ) PpmFault

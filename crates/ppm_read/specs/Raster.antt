@@ -1,8 +1,7 @@
 -- The raster, as Netpbm's ppm(5) and pgm(5) have it: the rows come from the top, each from the left, a sample for each grey pixel
 -- and three, red, green and blue, for each pixel of colour. That comments do not stand among plain samples, and which fault
 -- comes first, is this project's own.
-use Rattle.std.specs.Prelude.{◌≡◌, ℕ, zero, suc, ◌+◌, ◌*◌, ◌/◌, ◌&&◌, ◌==◌, nat_lt, List, [], ◌∷◌, map, if◌then◌else◌, Ok, Err, Some, None, Result, Bool, true, false, ⊤}
-use Rattle.std.specs.declared.option.Option.{Option}
+use Rattle.std.specs.Prelude.{ℕ, zero, suc, ◌+◌, ◌*◌, ◌&&◌, ◌==◌, nat_lt, List, [], ◌∷◌, map, if◌then◌else◌, Ok, Err, Some, None, Result, Bool}
 use Rattle.ppm_read.specs.declared.fault.PpmFault.{PpmFault}
 use Rattle.ppm_read.specs.declared.fault.PpmFault.TheVariants.{SampleAbove, Truncated}
 use Rattle.ppm_read.specs.declared.header.Channels.{Channels}
@@ -10,7 +9,9 @@ use Rattle.ppm_read.specs.declared.header.Channels.TheVariants.{Grey, Colour}
 use Rattle.ppm_read.specs.declared.header.Format.{Format}
 use Rattle.ppm_read.specs.declared.header.Format.TheVariants.{Plain, Raw}
 use Rattle.ppm_read.specs.declared.header.Head.{Head}
-use Rattle.ppm_read.specs.Reading.{◌>>=◌}
+use Rattle.picture_rows.specs.Reading.{◌>>=◌}
+use Rattle.picture_rows.specs.RowsLeft.{RowsLeft, with_row}
+use Rattle.picture_rows.specs.PixelBytes.{scaled}
 use Rattle.ppm_read.specs.Number.{is_white, behind, missing_at, begins_with, number_at}
 
 -- a raw sample of one byte
@@ -49,10 +50,6 @@ samples_at format maximum last (suc count) text = do
   others ← samples_at format maximum last count sample.1
   Ok (sample.0 ∷ others.0, others.1)
 
--- a sample as a number up to 255: its share of the maximum, rounded, halves up
-abbrev pub scaled : ℕ → ℕ → ℕ
-scaled maximum sample = (255 * sample + maximum / 2) / maximum
-
 -- how many samples a pixel has
 abbrev pub channel_count : Channels → ℕ
 channel_count Grey = 1
@@ -75,46 +72,12 @@ pixels_at head last count text = do
 abbrev pub row_at : Head → Bool → List ℕ → Result (List ℕ × List ℕ) PpmFault
 row_at head last text = pixels_at head last head.width text
 
--- the rows that are left, from the top, and the fault that comes after them, if one does
-pub record RowsLeft : Type 0 where
-  pub width : ℕ
-  pub rows : List (List ℕ)
-  pub fault : Option PpmFault
-
--- a row above those that are left
-abbrev pub with_row : List ℕ → RowsLeft → RowsLeft
-with_row row left = record left { rows = row ∷ left.rows }
-
 -- a row and those below it; or the fault in its place
-abbrev pub row_then : ℕ → Result (List ℕ × List ℕ) PpmFault → (List ℕ → RowsLeft) → RowsLeft
+abbrev pub row_then : ℕ → Result (List ℕ × List ℕ) PpmFault → (List ℕ → RowsLeft PpmFault) → RowsLeft PpmFault
 row_then width (Ok row) below = with_row row.0 (below row.1)
 row_then width (Err fault) below = record { width = width; rows = []; fault = Some fault }
 
 -- so many rows; that a text breaks a rule is found at the row where it does
-abbrev pub rows_of : Head → ℕ → List ℕ → RowsLeft
+abbrev pub rows_of : Head → ℕ → List ℕ → RowsLeft PpmFault
 rows_of head zero text = record { width = head.width; rows = []; fault = None }
 rows_of head (suc height) text = row_then head.width (row_at head (height == 0) text) (λ rest. rows_of head height rest)
-
--- ---- what the calls answer: this project's own
-
--- what the code's reading of one row answers, and what it leaves in the row's buffer
-abbrev pub ReadsRow : {X : Type 0} → (X → List ℕ) → Result X PpmFault → List ℕ → List ℕ → Result (List ℕ × List ℕ) PpmFault → Type 0
-ReadsRow view (Ok rest) old new read = read ≡ Ok (new, view rest)
-ReadsRow view (Err fault) old new read = (read ≡ Err fault) × (new ≡ old)
-
--- the text behind a row, or its fault
-abbrev pub behind_row : Result (List ℕ × List ℕ) PpmFault → Result (List ℕ) PpmFault
-behind_row row = row >>= (λ found. Ok found.1)
-
--- What a call answers, with the row that it wrote, and what is left afterwards: the next row; or false, where none is left and
--- no fault comes; or the fault, again at each later call.
-abbrev pub RowStep : RowsLeft → Result Bool PpmFault → List ℕ → RowsLeft → Type 0
-RowStep old (Ok true) row new = old ≡ with_row row new
-RowStep old (Ok false) row new = (old.rows ≡ []) × (old.fault ≡ None) × (new ≡ old)
-RowStep old (Err fault) row new = (old.rows ≡ []) × (old.fault ≡ Some fault) × (new ≡ old)
-
--- The buffer is written only where a row comes.
-abbrev pub KeepsBuffer : Result Bool PpmFault → List ℕ → List ℕ → Type 0
-KeepsBuffer (Ok true) old new = ⊤
-KeepsBuffer (Ok false) old new = new ≡ old
-KeepsBuffer (Err fault) old new = new ≡ old

@@ -8,8 +8,9 @@ use Rattle.ppm_read.specs.declared.header.Format.TheVariants.{Plain, Raw}
 use Rattle.ppm_read.specs.declared.header.Head.{Head}
 use Rattle.ppm_read.specs.Number.{is_white, is_line_end, is_digit, begins_with}
 use Rattle.ppm_read.specs.Header.{kind_of}
-use Rattle.ppm_read.specs.Raster.{channel_count, scaled, rgba}
-use Rattle.ppm_read.specs.Full.{FullPicture}
+use Rattle.picture_rows.specs.PixelBytes.{scaled}
+use Rattle.ppm_read.specs.Raster.{channel_count, rgba}
+use Rattle.picture_rows.specs.FullPicture.{FullPicture}
 
 -- a part of a gap: a white byte, or a comment, which `#` begins, and the line end that stops it
 pub data GapPart : Type 0 where

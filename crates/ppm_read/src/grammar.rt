@@ -1,7 +1,8 @@
 // What the definitions say of a text, in the words of its grammar.
 ghost use Rattle.std.specs.Prelude.{◌≡◌, ◌↔◌, ℕ, List, Result};
 ghost use Rattle.ppm_read.specs.declared.fault.PpmFault.{PpmFault};
-ghost use Rattle.ppm_read.specs.Full.{FullPicture, full_picture};
+ghost use Rattle.picture_rows.specs.FullPicture.{FullPicture};
+ghost use Rattle.ppm_read.specs.Full.{full_picture};
 ghost use Rattle.ppm_read.specs.Breaking.{IsOutcome};
 
 /// A law that does no work: which texts have a full picture, which pixels it has, and which fault any

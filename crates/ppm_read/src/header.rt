@@ -1,7 +1,7 @@
 // The header: the magic number, the two sides and the maximum.
 ghost use Rattle.std.specs.Prelude.{◌≡◌, ◌≤◌, length, IfOk};
-ghost use Rattle.ppm_read.specs.Reading.{Gives};
-ghost use Rattle.ppm_read.specs.Size.{IsPictureSize};
+ghost use Rattle.picture_rows.specs.Reading.{Gives};
+ghost use Rattle.picture_rows.specs.FullPicture.{IsPictureSize};
 ghost use Rattle.ppm_read.specs.Header.{kind_of, magic_at, part_at, size_at, maximum_at, raster_at, head_of};
 
 use crate::fault::PpmFault;
@@ -124,7 +124,7 @@ fn raster(format: Format, text: &[u8]) -> Result<&[u8], PpmFault>
 #[tactic(auto, unfolding(crate::specs::Header::head_of))]
 pub fn read_head(bytes: &[u8]) -> Result<Head, PpmFault>
     ensures head { result ≡ head_of bytes.now }
-    ensures size { IfOk result IsPictureSize }
+    ensures size { IfOk result (λ head. IsPictureSize head.width head.height) }
 {
     let (channels, format, rest) = magic(bytes)?;
     let (width, height, rest) = size(rest)?;

@@ -1,12 +1,11 @@
 // White space, comments and numbers at the front of a text.
 ghost use Rattle.std.specs.Prelude.{◌||◌, ◌≡◌, ◌<◌, ◌≤◌, ◌^◌, ◌*◌, ◌+◌, ◌-◌, length, drop, IfOk};
 ghost use Rattle.std.specs.List.{prefix_len};
-ghost use Rattle.std.specs.Option.{SomeIff};
-ghost use Rattle.std.specs.Str.Parse.{AllDigits, digits_value};
-ghost use Rattle.ppm_read.specs.Reading.{Gives};
+ghost use Rattle.picture_rows.specs.Reading.{Gives};
 ghost use Rattle.ppm_read.specs.Number.{is_white, is_line_end, begins_comment, is_digit, behind, behind_gap, missing_at, begins_with, gap_at, is_cut, number_at};
 
 use crate::fault::PpmFault;
+use decimal::value_of;
 
 pub(crate) fn is_white(byte: u8) -> bool
     ensures { result ≡ is_white byte }
@@ -106,26 +105,6 @@ fn digit_count(text: &[u8]) -> usize
     ensures bound { result ≤ length text.now }
 {
     text.iter().take_while(|byte| byte.is_ascii_digit()).count()
-}
-
-// The number that the digits spell, if 32 bits hold it.
-fn value_of(digits: &[u8]) -> Option<u32>
-    requires { AllDigits 10 digits.now }
-    ensures { SomeIff result (digits_value 10 digits.now < 2 ^ 32) (digits_value 10 digits.now) }
-{
-    let mut value = 0u32;
-    for digit in digits {
-        value = one_more_digit(value, *digit)?;
-    }
-    Some(value)
-}
-
-// A number with one digit more at its end, if 32 bits hold it.
-fn one_more_digit(value: u32, digit: u8) -> Option<u32>
-    requires { 48 ≤ digit }
-    ensures { SomeIff result (value * 10 + (digit - 48) < 2 ^ 32) (value * 10 + (digit - 48)) }
-{
-    value.checked_mul(10)?.checked_add(u32::from(digit - b'0'))
 }
 
 // Whether a number is cut, since the text ends with it.

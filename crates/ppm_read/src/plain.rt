@@ -1,14 +1,17 @@
 // Rows of plain samples.
-ghost use Rattle.std.specs.Prelude.{◌≡◌, ◌≤◌, ◌<◌, ◌+◌, ◌*◌, ◌==◌, ◌&&◌, [], ◌∷◌, length, IfOk};
+ghost use Rattle.std.specs.Prelude.{◌≡◌, ◌≤◌, ◌<◌, ◌+◌, ◌*◌, ◌==◌, ◌&&◌, length, IfOk};
 ghost use Rattle.ppm_read.specs.declared.header.Format.TheVariants.{Plain};
-ghost use Rattle.ppm_read.specs.Reading.{Gives};
+ghost use Rattle.picture_rows.specs.Reading.{Gives};
+ghost use Rattle.picture_rows.specs.PixelBytes.{rgba_bytes};
+ghost use Rattle.picture_rows.specs.Scale.{IsScale};
 ghost use Rattle.ppm_read.specs.Plain.{grey_pixel_at, colour_pixel_at};
-ghost use Rattle.ppm_read.specs.Raster.{sample_at, pixels_at, row_at, ReadsRow, behind_row};
+ghost use Rattle.ppm_read.specs.Raster.{sample_at, pixels_at, row_at};
 
 use crate::fault::PpmFault;
 use crate::header::{Channels, Head};
 use crate::number::{after_white, begins_white, missing, number};
-use crate::pixel::{put_pixel, scaled};
+use crate::pixel::opaque;
+use picture_rows::{Rgba, Scale, put_pixel, scale_of, scaled_by};
 
 // A sample, and the text after it. The last one of the raster may end with the text.
 #[inline(always)]
@@ -28,47 +31,48 @@ fn plain_sample(text: &[u8], maximum: u16, last: bool) -> Result<(u16, &[u8]), P
 }
 
 // A grey pixel, and the text after it.
-fn grey_pixel(text: &[u8], maximum: u16, last: bool) -> Result<((u8, u8, u8), &[u8]), PpmFault>
-    requires { 1 ≤ maximum }
+fn grey_pixel(text: &[u8], scale: Scale, last: bool) -> Result<(Rgba, &[u8]), PpmFault>
+    requires { IsScale scale }
     ensures { Gives
-        (λ found. (found.0.0 ∷ found.0.1 ∷ found.0.2 ∷ 255 ∷ [], found.1.now)) result
-        (grey_pixel_at maximum last text.now) }
+        (λ found. (rgba_bytes found.0, found.1.now)) result
+        (grey_pixel_at scale.maximum last text.now) }
 {
-    let (sample, rest) = plain_sample(text, maximum, last)?;
-    let grey = scaled(sample, maximum);
-    Ok(((grey, grey, grey), rest))
+    let (sample, rest) = plain_sample(text, scale.maximum, last)?;
+    let grey = scaled_by(scale, sample);
+    Ok((opaque(grey, grey, grey), rest))
 }
 
 // A pixel of colour, and the text after it.
-fn colour_pixel(text: &[u8], maximum: u16, last: bool) -> Result<((u8, u8, u8), &[u8]), PpmFault>
-    requires { 1 ≤ maximum }
+fn colour_pixel(text: &[u8], scale: Scale, last: bool) -> Result<(Rgba, &[u8]), PpmFault>
+    requires { IsScale scale }
     ensures { Gives
-        (λ found. (found.0.0 ∷ found.0.1 ∷ found.0.2 ∷ 255 ∷ [], found.1.now)) result
-        (colour_pixel_at maximum last text.now) }
+        (λ found. (rgba_bytes found.0, found.1.now)) result
+        (colour_pixel_at scale.maximum last text.now) }
 {
-    let (red, rest) = plain_sample(text, maximum, false)?;
-    let (green, rest) = plain_sample(rest, maximum, false)?;
-    let (blue, rest) = plain_sample(rest, maximum, last)?;
-    let pixel = (
-        scaled(red, maximum),
-        scaled(green, maximum),
-        scaled(blue, maximum),
+    let (red, rest) = plain_sample(text, scale.maximum, false)?;
+    let (green, rest) = plain_sample(rest, scale.maximum, false)?;
+    let (blue, rest) = plain_sample(rest, scale.maximum, last)?;
+    let pixel = opaque(
+        scaled_by(scale, red),
+        scaled_by(scale, green),
+        scaled_by(scale, blue),
     );
     Ok((pixel, rest))
 }
 
 // A pixel, and the text after it.
 #[inline(always)]
-fn plain_pixel(text: &[u8], head: Head, last: bool) -> Result<((u8, u8, u8), &[u8]), PpmFault>
-    requires maximum { 1 ≤ head.maximum }
+fn plain_pixel(text: &[u8], head: Head, scale: Scale, last: bool) -> Result<(Rgba, &[u8]), PpmFault>
+    requires scale { IsScale scale }
+    requires maximum { scale.maximum ≡ head.maximum }
     requires format { head.format ≡ Plain }
     ensures { Gives
-        (λ found. (found.0.0 ∷ found.0.1 ∷ found.0.2 ∷ 255 ∷ [], found.1.now)) result
+        (λ found. (rgba_bytes found.0, found.1.now)) result
         (pixels_at head last 1 text.now) }
 {
     match head.channels {
-        Channels::Grey => grey_pixel(text, head.maximum, last),
-        Channels::Colour => colour_pixel(text, head.maximum, last),
+        Channels::Grey => grey_pixel(text, scale, last),
+        Channels::Colour => colour_pixel(text, scale, last),
     }
 }
 
@@ -80,24 +84,9 @@ fn is_last_pixel(last: bool, x: u32, width: u32) -> bool
     last && x + 1 == width
 }
 
-// The text after a row.
+// Reads a row into the buffer, up to its first fault, and gives the text after it.
 #[inline(never)]
-fn after_plain_row(text: &[u8], head: Head, last: bool) -> Result<&[u8], PpmFault>
-    requires maximum { 1 ≤ head.maximum }
-    requires format { head.format ≡ Plain }
-    ensures { Gives (λ rest. rest.now) result (behind_row (row_at head last text.now)) }
-{
-    let mut rest = text;
-    for x in 0..head.width {
-        let (_, after) = plain_pixel(rest, head, is_last_pixel(last, x, head.width))?;
-        rest = after;
-    }
-    Ok(rest)
-}
-
-// Writes a row, up to its first fault, and gives the text after it.
-#[inline(never)]
-fn write_plain_row<'a>(
+pub(crate) fn plain_row<'a>(
     text: &'a [u8],
     head: Head,
     last: bool,
@@ -108,28 +97,12 @@ fn write_plain_row<'a>(
     requires into { length into.old ≡ 4 * head.width }
     ensures { Gives (λ rest. (into.new, rest.now)) result (row_at head last text.now) }
 {
+    let scale = scale_of(head.maximum);
     let mut rest = text;
     for x in 0..head.width {
-        let (pixel, after) = plain_pixel(rest, head, is_last_pixel(last, x, head.width))?;
+        let (pixel, after) = plain_pixel(rest, head, scale, is_last_pixel(last, x, head.width))?;
         put_pixel(into, x as usize, pixel);
         rest = after;
     }
     Ok(rest)
-}
-
-// Reads a row into the buffer, and gives the text after it.
-pub(crate) fn plain_row<'a>(
-    text: &'a [u8],
-    head: Head,
-    last: bool,
-    into: &mut [u8],
-) -> Result<&'a [u8], PpmFault>
-    requires maximum { 1 ≤ head.maximum }
-    requires format { head.format ≡ Plain }
-    requires into { length into.old ≡ 4 * head.width }
-    ensures { ReadsRow (λ rest. rest.now) result into.old into.new (row_at head last text.now) }
-{
-    // A fault is found here, before the buffer is written.
-    let _ = after_plain_row(text, head, last)?;
-    write_plain_row(text, head, last, into)
 }

@@ -1,16 +1,19 @@
 // Rows of raw samples. The loops over a row stay functions of their own, so that they keep their values in
 // registers.
-ghost use Rattle.std.specs.Prelude.{◌≡◌, ◌≤◌, ◌<◌, ◌+◌, ◌*◌, Bool, false, [], ◌∷◌, length, map, take, drop, nat_lt, slice_index};
+ghost use Rattle.std.specs.Prelude.{◌≡◌, ◌≤◌, ◌<◌, ◌+◌, ◌*◌, Bool, false, length, map, take, drop, nat_lt, slice_index};
 ghost use Rattle.std.specs.List.{list_any};
 ghost use Rattle.ppm_read.specs.declared.header.Format.TheVariants.{Raw};
 ghost use Rattle.ppm_read.specs.declared.header.Channels.TheVariants.{Grey, Colour};
-ghost use Rattle.ppm_read.specs.Raster.{channel_count, scaled, rgba, row_at, ReadsRow};
+ghost use Rattle.picture_rows.specs.Reading.{Gives};
+ghost use Rattle.picture_rows.specs.PixelBytes.{rgba_bytes, scaled};
+ghost use Rattle.ppm_read.specs.Raster.{channel_count, rgba, row_at};
 ghost use Rattle.ppm_read.specs.Raw.{words, sample_length, raw_samples};
-ghost use Rattle.ppm_read.specs.Scale.{IsScale};
+ghost use Rattle.picture_rows.specs.Scale.{IsScale};
 
 use crate::fault::PpmFault;
 use crate::header::{Channels, Head};
-use crate::pixel::{Scale, channel_count, put_pixel, scale_of, scaled_by};
+use crate::pixel::{channel_count, opaque};
+use picture_rows::{Rgba, Scale, put_pixel, scale_of, scaled_by};
 
 // How many bytes a sample has.
 fn sample_length(maximum: u16) -> usize
@@ -87,7 +90,7 @@ fn write_grey(row: &[u8], into: &mut [u8])
     ensures { into.new ≡ rgba Grey row.now }
 {
     for x in 0..row.len() {
-        put_pixel(into, x, (row[x], row[x], row[x]));
+        put_pixel(into, x, opaque(row[x], row[x], row[x]));
     }
 }
 
@@ -99,7 +102,7 @@ fn write_colour(row: &[u8], into: &mut [u8], width: usize)
     ensures { into.new ≡ rgba Colour row.now }
 {
     for x in 0..width {
-        put_pixel(into, x, (row[3 * x], row[3 * x + 1], row[3 * x + 2]));
+        put_pixel(into, x, opaque(row[3 * x], row[3 * x + 1], row[3 * x + 2]));
     }
 }
 
@@ -114,24 +117,24 @@ fn scaled_sample(row: &[u8], index: usize, scale: Scale) -> u8
 }
 
 // A pixel of a row in which no sample is above the maximum.
-fn pixel(row: &[u8], x: usize, channels: Channels, scale: Scale) -> (u8, u8, u8)
+fn pixel(row: &[u8], x: usize, channels: Channels, scale: Scale) -> Rgba
     requires scale { IsScale scale }
     requires within { list_any (nat_lt scale.maximum) (raw_samples scale.maximum row.now) ≡ false }
     requires inside { channel_count channels * (x + 1) ≤ length (raw_samples scale.maximum row.now) }
     ensures { rgba channels (take (channel_count channels) (drop (channel_count channels * x)
         (map (scaled scale.maximum) (raw_samples scale.maximum row.now))))
-        ≡ result.0 ∷ result.1 ∷ result.2 ∷ 255 ∷ [] }
+        ≡ rgba_bytes result }
 {
     match channels {
         Channels::Grey => {
             let grey = scaled_sample(row, x, scale);
-            (grey, grey, grey)
+            opaque(grey, grey, grey)
         }
         Channels::Colour => {
             let red = scaled_sample(row, 3 * x, scale);
             let green = scaled_sample(row, 3 * x + 1, scale);
             let blue = scaled_sample(row, 3 * x + 2, scale);
-            (red, green, blue)
+            opaque(red, green, blue)
         }
     }
 }
@@ -173,7 +176,7 @@ pub(crate) fn raw_row<'a>(text: &'a [u8], head: Head, into: &mut [u8]) -> Result
     requires format { head.format ≡ Raw }
     requires into { length into.old ≡ 4 * head.width }
     ensures { (last : Bool)
-        → ReadsRow (λ rest. rest.now) result into.old into.new (row_at head last text.now) }
+        → Gives (λ rest. (into.new, rest.now)) result (row_at head last text.now) }
 {
     let width = head.width as usize;
     let wanted = sample_length(head.maximum) * (channel_count(head.channels) * width);

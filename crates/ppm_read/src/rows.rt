@@ -1,8 +1,9 @@
 // The rows of the raster, from the top.
-ghost use Rattle.std.specs.Prelude.{◌≡◌, ◌≤◌, ◌*◌, length, Ok};
+ghost use Rattle.std.specs.Prelude.{◌≡◌, ◌≤◌, ◌*◌, false, length, Ok};
+ghost use Rattle.picture_rows.specs.Reading.{Gives};
 ghost use Rattle.ppm_read.specs.Header.{head_of};
-ghost use Rattle.ppm_read.specs.Raster.{row_at, ReadsRow, RowStep, KeepsBuffer};
-ghost use Rattle.ppm_read.specs.Size.{HasRows};
+ghost use Rattle.picture_rows.specs.RowsLeft.{RowStep, HasRows};
+ghost use Rattle.ppm_read.specs.Raster.{row_at};
 ghost use Rattle.ppm_read.specs.Full.{rows_under};
 
 use crate::fault::PpmFault;
@@ -22,9 +23,11 @@ pub struct Rows<'a> {
 
 impl<'a> Model for Rows<'a> {
     ghost use Rattle.std.specs.Prelude.{◌≤◌};
-    ghost use Rattle.ppm_read.specs.Raster.{RowsLeft, rows_of};
+    ghost use Rattle.picture_rows.specs.RowsLeft.{RowsLeft};
+    ghost use Rattle.ppm_read.specs.declared.fault.PpmFault.{PpmFault};
+    ghost use Rattle.ppm_read.specs.Raster.{rows_of};
 
-    ghost Value = { RowsLeft };
+    ghost Value = { RowsLeft PpmFault };
 
     ghost view = { λ s. rows_of s.head s.height_left s.text.now };
 
@@ -40,7 +43,7 @@ fn read_row<'a>(
 ) -> Result<&'a [u8], PpmFault>
     requires maximum { 1 ≤ head.maximum }
     requires into { length into.old ≡ 4 * head.width }
-    ensures { ReadsRow (λ rest. rest.now) result into.old into.new (row_at head last text.now) }
+    ensures { Gives (λ rest. (into.new, rest.now)) result (row_at head last text.now) }
 {
     match head.format {
         Format::Plain => plain_row(text, head, last, into),
@@ -70,11 +73,12 @@ impl<'a> Rows<'a> {
     /// After the last row it answers false.
     ///
     /// `Truncated`, `BadNumber` (in a plain raster) and `SampleAbove` come in the place of the row in
-    /// which the text breaks that rule, and again at each later call.
+    /// which the text breaks that rule, and again at each later call; what it leaves in the buffer is
+    /// any bytes.
     pub fn next_row(&mut self, into: &mut [u8]) -> Result<bool, PpmFault>
         requires { length into.old ≡ 4 * self.old.width }
         ensures step { RowStep self.old result into.new self.new }
-        ensures buffer { KeepsBuffer result into.old into.new }
+        ensures buffer { result ≡ Ok false → into.new ≡ into.old }
     {
         if self.height_left == 0 {
             return Ok(false);

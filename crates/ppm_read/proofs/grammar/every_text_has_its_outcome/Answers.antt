@@ -1,6 +1,7 @@
 use Rattle.std.proofs.Common.{◌≡◌, ℕ, List, Result, Ok, Err}
 use Rattle.ppm_read.specs.declared.fault.PpmFault.{PpmFault}
-use Rattle.ppm_read.specs.Full.{FullPicture, full_picture}
+use Rattle.picture_rows.specs.FullPicture.{FullPicture}
+use Rattle.ppm_read.specs.Full.{full_picture}
 use Rattle.ppm_read.specs.Breaking.{IsOutcome}
 use Rattle.ppm_read.proofs.Spelled.{spelled_from_read, read_from_spelled}
 use Rattle.ppm_read.proofs.Outcomes.{breaks_from_read, read_from_breaks}

@@ -1,6 +1,7 @@
 use Rattle.std.proofs.Common.{◌<◌, ◌≤◌, ◌+◌, ◌*◌, ℕ, length, map, sym, ap, ◌∙◌, arith}
 use Rattle.std.proofs.lemmas.List.{length-map}
-use Rattle.ppm_read.specs.Raster.{channel_count, scaled}
+use Rattle.picture_rows.specs.PixelBytes.{scaled}
+use Rattle.ppm_read.specs.Raster.{channel_count}
 use Rattle.ppm_read.specs.Raw.{raw_samples}
 use Rattle.ppm_read.proofs.Pixels.{grey_pixel, colour_pixel, colour_inside}
 use Rattle.ppm_read.proofs.RawSamples.{length-raw_samples-le}
@@ -26,9 +27,9 @@ inside_pixels m k row le = omega (arith, length-map (raw_samples m row) (scaled 
 
 pub returns-in-Grey : goal.returns-in-Grey
 returns-in-Grey c =
-    grey_pixel c.args.channels (map (scaled c.args.scale.maximum) (raw_samples c.args.scale.maximum c.args.row.now)) c.args.x _ c.in-Grey.is (inside_pixels c.args.scale.maximum (channel_count c.args.channels * (c.args.x + 1)) c.args.row.now c.requires.inside) c.scaled_sample-grey.ensures
+    grey_pixel c.args.channels (map (scaled c.args.scale.maximum) (raw_samples c.args.scale.maximum c.args.row.now)) c.args.x _ c.in-Grey.is (inside_pixels c.args.scale.maximum (channel_count c.args.channels * (c.args.x + 1)) c.args.row.now c.requires.inside) c.scaled_sample-grey.ensures ∙ sym c.opaque.ensures
 
 pub returns-in-Colour : goal.returns-in-Colour
 returns-in-Colour c =
     colour_pixel c.args.channels (map (scaled c.args.scale.maximum) (raw_samples c.args.scale.maximum c.args.row.now)) c.args.x _ _ _ c.in-Colour.is (inside_pixels c.args.scale.maximum (channel_count c.args.channels * (c.args.x + 1)) c.args.row.now c.requires.inside)
-    c.scaled_sample-red.ensures c.scaled_sample-green.ensures c.scaled_sample-blue.ensures
+    c.scaled_sample-red.ensures c.scaled_sample-green.ensures c.scaled_sample-blue.ensures ∙ sym c.opaque-in-Colour.ensures

@@ -1,7 +1,8 @@
 use Rattle.std.proofs.Common.{◌≡◌, ℕ, List, map, sym, ap, ◌∙◌}
 use Rattle.ppm_read.specs.declared.header.Channels.{Channels}
 use Rattle.ppm_read.specs.declared.header.Channels.TheVariants.{Grey, Colour}
-use Rattle.ppm_read.specs.Raster.{scaled, rgba}
+use Rattle.picture_rows.specs.PixelBytes.{scaled}
+use Rattle.ppm_read.specs.Raster.{rgba}
 use Rattle.ppm_read.specs.Raw.{raw_samples}
 use Rattle.ppm_read.proofs.Pixels.{map-scaled-255}
 use Rattle.ppm_read.proofs.raw.write_row.Goals as goal

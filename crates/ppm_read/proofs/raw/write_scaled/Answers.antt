@@ -1,7 +1,8 @@
 use Rattle.std.proofs.Common.{map, arith}
 use Rattle.std.proofs.lemmas.List.{length-map}
 use Rattle.std.proofs.Math.Nat.{mul-le-mul_left}
-use Rattle.ppm_read.specs.Raster.{channel_count, scaled}
+use Rattle.picture_rows.specs.PixelBytes.{scaled}
+use Rattle.ppm_read.specs.Raster.{channel_count}
 use Rattle.ppm_read.specs.Raw.{raw_samples}
 use Rattle.ppm_read.proofs.Pixels.{row_more, row_all}
 use Rattle.ppm_read.proofs.raw.write_scaled.Goals as goal

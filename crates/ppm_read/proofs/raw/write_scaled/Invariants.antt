@@ -1,5 +1,6 @@
 use Rattle.std.proofs.Common.{◌≡◌, ◌*◌, ◌++◌, take, drop, map}
-use Rattle.ppm_read.specs.Raster.{channel_count, scaled, rgba}
+use Rattle.picture_rows.specs.PixelBytes.{scaled}
+use Rattle.ppm_read.specs.Raster.{channel_count, rgba}
 use Rattle.ppm_read.specs.Raw.{raw_samples}
 use Rattle.ppm_read.proofs.raw.write_scaled.Given as goal
 

@@ -4,7 +4,7 @@ use Rattle.std.proofs.lemmas.Int.Digits.{digits_value_more}
 use Rattle.std.proofs.lemmas.List.{take_all}
 use Rattle.std.proofs.lemmas.Str.{digit_value_digit}
 use Rattle.std.proofs.lemmas.Str.Parse.{digit_at, digits_value-take-le}
-use Rattle.ppm_read.proofs.number.value_of.Goals as goal
+use Rattle.decimal.proofs.digits.value_of.Goals as goal
 
 -- one digit more
 more : (ds : List ℕ) (i value : ℕ) → AllDigits 10 ds → i < length ds → value ≡ digits_value 10 (take i ds)

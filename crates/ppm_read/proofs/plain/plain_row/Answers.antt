@@ -1,6 +1,6 @@
 use Rattle.std.proofs.Common.{arith, rules}
 use Rattle.ppm_read.proofs.PlainRows.{written_more, written_fails, written_all}
-use Rattle.ppm_read.proofs.plain.write_plain_row.Goals as goal
+use Rattle.ppm_read.proofs.plain.plain_row.Goals as goal
 
 pub returns-in_err-pixel : goal.returns-in_err-pixel
 returns-in_err-pixel c =

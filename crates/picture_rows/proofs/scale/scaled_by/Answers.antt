@@ -1,6 +1,6 @@
 use Rattle.std.proofs.Common.{arith}
-use Rattle.ppm_read.proofs.Reciprocals.{share_is, share_fits}
-use Rattle.ppm_read.proofs.pixel.scaled_by.Goals as goal
+use Rattle.picture_rows.proofs.Reciprocals.{share_is, share_fits}
+use Rattle.picture_rows.proofs.scale.scaled_by.Goals as goal
 
 pub overflow_cast-result : goal.overflow_cast-result
 overflow_cast-result c =

@@ -1,6 +1,6 @@
 -- How samples are scaled without a division: this project's own.
 use Rattle.std.specs.Prelude.{◌≡◌, ◌≤◌, ◌+◌, ◌/◌, ◌^◌}
-use Rattle.ppm_read.specs.declared.pixel.Scale.{Scale}
+use Rattle.picture_rows.specs.declared.scale.Scale.{Scale}
 
 -- The reciprocal of the maximum, rounded up, where 2 to the 40th stands for 1.
 pub record IsScale (scale : Scale) : Type 0 where
