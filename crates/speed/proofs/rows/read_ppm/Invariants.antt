@@ -1,5 +1,5 @@
 use Rattle.std.proofs.Common.{◌≡◌, ◌*◌, length}
-use Rattle.rows_speed.proofs.read_bmp.Given as goal
+use Rattle.speed.proofs.rows.read_ppm.Given as goal
 
 abbrev pub invariant-loop : goal.invariant-loop
 invariant-loop l = length l.row ≡ 4 * l.rows.width

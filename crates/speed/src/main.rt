@@ -1,0 +1,33 @@
+//! Times the work that has a twin in plain C (the folder bench/): each word names a mode, and with no word nothing is
+//! timed.
+#![tactic(auto)]
+
+mod bitmaps;
+mod rows;
+mod samples;
+mod timing;
+
+use anyhow::Result;
+use std::alloc::Global;
+use std::env;
+use std::rt::Runtime;
+
+// Times what a mode names.
+fn time(rt: &impl Runtime, alloc: Global, mode: &str) -> Result<()> {
+    match mode {
+        "rows" => rows::time(rt, alloc),
+        "samples" => samples::time(rt, alloc),
+        "bitmaps" => bitmaps::time(rt, alloc),
+        _ => {
+            println!(rt; "no such mode: {mode}")?;
+            Ok(())
+        }
+    }
+}
+
+fn main(rt: HostRuntime) -> Result<()> {
+    for word in env::args(&rt)?.skip(1) {
+        time(&rt, rt.alloc(), &word)?;
+    }
+    Ok(())
+}
