@@ -163,9 +163,12 @@ static struct channel channel_of(uint32_t mask, uint8_t absent) {
     return (struct channel){ shift, mask >> shift, absent };
 }
 
+// Masks of at most 24 bits are divided in 32 bits.
 static uint8_t by(struct channel c, uint32_t value) {
     if (!c.maximum) return c.absent;
-    return (uint8_t)((255ull * (value >> c.shift & c.maximum) + c.maximum / 2) / c.maximum);
+    uint32_t sample = value >> c.shift & c.maximum;
+    if (c.maximum < 1 << 24) return (uint8_t)((255 * sample + c.maximum / 2) / c.maximum);
+    return (uint8_t)((255ull * sample + c.maximum / 2) / c.maximum);
 }
 
 static const uint8_t *read_masks_16(const struct picture *p, const uint8_t *text, uint8_t *restrict to) {

@@ -8,3 +8,4 @@ pub mod Pixel
 pub mod Raster
 pub mod Full
 pub mod Rules
+pub mod inside

@@ -8,7 +8,7 @@ ghost use Rattle.bmp_read.specs.Raster.{pixels};
 
 use crate::bytes::u16_at;
 use crate::pixel::bgr;
-use picture_rows::{Rgba, put_pixel, scaled};
+use picture_rows::{Rgba, put_pixel, put_pixel_at_once, scaled};
 
 // The colour of a value with five bits for each of red, green and blue.
 fn rgb555(value: u16) -> Rgba
@@ -41,7 +41,7 @@ pub(crate) fn write_bgr24(row: &[u8], into: &mut [u8], width: usize)
     ensures { into.new ≡ pixels (λ x. bgr_at (3 * x) row.now) width }
 {
     for x in 0..width {
-        put_pixel(into, x, bgr(row, 3 * x));
+        put_pixel_at_once(into, x, bgr(row, 3 * x));
     }
 }
 
@@ -52,6 +52,6 @@ pub(crate) fn write_bgr32(row: &[u8], into: &mut [u8], width: usize)
     ensures { into.new ≡ pixels (λ x. bgr_at (4 * x) row.now) width }
 {
     for x in 0..width {
-        put_pixel(into, x, bgr(row, 4 * x));
+        put_pixel_at_once(into, x, bgr(row, 4 * x));
     }
 }

@@ -7,7 +7,7 @@ ghost use Rattle.bmp_read.specs.Raster.{pixels};
 
 use crate::format::Palette;
 use crate::pixel::bgr;
-use picture_rows::{Rgba, put_pixel};
+use picture_rows::{Rgba, put_pixel, put_pixel_at_once};
 
 // The colour of an index that the palette has.
 fn known_colour(text: &[u8], palette: Palette, index: u8) -> Rgba
@@ -67,7 +67,7 @@ pub(crate) fn write_indexed1(
     ensures { into.new ≡ pixels (λ x. palette_colour palette text.now (index1 row.now x)) width }
 {
     for x in 0..width {
-        put_pixel(into, x, palette_colour(text, palette, index1(row, x)));
+        put_pixel_at_once(into, x, palette_colour(text, palette, index1(row, x)));
     }
 }
 

@@ -3,4 +3,4 @@
 
 mod digits;
 
-pub use digits::value_of;
+pub use digits::{Leading, leading_digits, value_of};

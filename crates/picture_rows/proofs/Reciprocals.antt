@@ -34,6 +34,9 @@ by_reciprocal n m k some small =
     (product_low n m k (n / m) (k / m) (div-mul-le_self n m) (omega (arith, lt-div-mul-add {a = k} {b = m} some)))
     (below n m k some small)
 
+sum : (r v h : ℕ) → 255 * r * v + h * r ≡ (255 * v + h) * r
+sum r v h = omega arith
+
 -- a sample before it is divided: below 256 times its maximum
 pub full_small : (v m : ℕ) → 1 ≤ m → v ≤ m → m < 65536 → (255 * v + m / 2) * m < 2 ^ 40
 full_small v m some le bound =
@@ -41,8 +44,10 @@ full_small v m some le bound =
     omega (arith, most)
 
 -- a sample is scaled by the reciprocal of its maximum
-pub share_is : (v m n h r : ℕ) → 1 ≤ m → v ≤ m → m < 65536 → n ≡ v → h ≡ m → r ≡ 2 ^ 40 / m + 1 → (255 * n + h / 2) * r / 2 ^ 40 ≡ (255 * v + m / 2) / m
-share_is v m n h r some le bound e f g = (λ i. (255 * e i + f i / 2) * g i / 2 ^ 40) ∙ by_reciprocal (255 * v + m / 2) m (2 ^ 40) some (full_small v m some le bound)
+pub share_is : (v m r n f h : ℕ) → 1 ≤ m → v ≤ m → m < 65536 → n ≡ v → r ≡ 2 ^ 40 / m + 1 → f ≡ 255 * r → h ≡ m / 2 * r → (f * n + h) / 2 ^ 40 ≡ (255 * v + m / 2) / m
+share_is v m r n f h some le bound e is factor offset =
+    let product : f * n + h ≡ (255 * v + m / 2) * r = (λ i. factor i * e i + offset i) ∙ sum r v (m / 2) in
+    ap (λ n. n / 2 ^ 40) (product ∙ ap (λ r. (255 * v + m / 2) * r) is) ∙ by_reciprocal (255 * v + m / 2) m (2 ^ 40) some (full_small v m some le bound)
 
 pub share_fits : (v m : ℕ) → 1 ≤ m → v ≤ m → (255 * v + m / 2) / m < 256
 share_fits v m some le =

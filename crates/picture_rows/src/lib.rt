@@ -5,5 +5,5 @@
 mod pixel;
 mod scale;
 
-pub use pixel::{Rgba, put_pixel};
+pub use pixel::{Rgba, put_pixel, put_pixel_at_once};
 pub use scale::{Scale, scale_of, scaled, scaled_by};

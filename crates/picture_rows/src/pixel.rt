@@ -12,6 +12,7 @@ pub struct Rgba {
 }
 
 /// Writes the pixel into its column of a row's buffer.
+#[inline(always)]
 pub fn put_pixel(into: &mut [u8], x: usize, pixel: Rgba)
     requires { 4 * x + 4 ≤ length into.old }
     ensures { take (4 * (x + 1)) into.new ≡ take (4 * x) into.old ++ rgba_bytes pixel }
@@ -20,4 +21,13 @@ pub fn put_pixel(into: &mut [u8], x: usize, pixel: Rgba)
     into[4 * x + 1] = pixel.green;
     into[4 * x + 2] = pixel.blue;
     into[4 * x + 3] = pixel.alpha;
+}
+
+/// The same by one store, which is faster where the samples come as they are written.
+#[inline(always)]
+pub fn put_pixel_at_once(into: &mut [u8], x: usize, pixel: Rgba)
+    requires { 4 * x + 4 ≤ length into.old }
+    ensures { take (4 * (x + 1)) into.new ≡ take (4 * x) into.old ++ rgba_bytes pixel }
+{
+    into[4 * x..4 * x + 4].copy_from_slice(&[pixel.red, pixel.green, pixel.blue, pixel.alpha]);
 }

@@ -13,13 +13,16 @@ pub fn scaled(sample: u32, maximum: u32) -> u8
     (full / u64::from(maximum)) as u8
 }
 
-/// What samples of a maximum are scaled by, so that a row of them needs no division: the maximum's reciprocal.
+/// What samples of a maximum are scaled by, so that a row of them needs no division.
 #[derive(Clone, Copy)]
 pub struct Scale {
     pub maximum: u16,
 
-    /// Rounded up, where 2 to the 40th stands for 1.
-    pub reciprocal: u64,
+    /// 255 times the maximum's reciprocal, which is rounded up, where 2 to the 40th stands for 1.
+    pub factor: u64,
+
+    /// Half of the maximum times that reciprocal.
+    pub offset: u64,
 }
 
 /// The scale of a maximum.
@@ -28,18 +31,20 @@ pub fn scale_of(maximum: u16) -> Scale
     ensures scale { IsScale result }
     ensures maximum { result.maximum ≡ maximum }
 {
+    let reciprocal = (1 << 40) / u64::from(maximum) + 1;
     Scale {
         maximum,
-        reciprocal: (1 << 40) / u64::from(maximum) + 1,
+        factor: 255 * reciprocal,
+        offset: u64::from(maximum / 2) * reciprocal,
     }
 }
 
 /// A sample as a number up to 255, without a division.
+#[inline(always)]
 pub fn scaled_by(scale: Scale, sample: u16) -> u8
     requires scale { IsScale scale }
     requires within { sample ≤ scale.maximum }
     ensures { result ≡ scaled scale.maximum sample }
 {
-    let full = 255 * u64::from(sample) + u64::from(scale.maximum) / 2;
-    ((full * scale.reciprocal) >> 40) as u8
+    ((scale.factor * u64::from(sample) + scale.offset) >> 40) as u8
 }

@@ -5,7 +5,7 @@ ghost use Rattle.picture_rows.specs.Reading.{Gives};
 ghost use Rattle.ppm_read.specs.Number.{is_white, is_line_end, begins_comment, is_digit, behind, behind_gap, missing_at, begins_with, gap_at, is_cut, number_at};
 
 use crate::fault::PpmFault;
-use decimal::value_of;
+use decimal::leading_digits;
 
 pub(crate) fn is_white(byte: u8) -> bool
     ensures { result ≡ is_white byte }
@@ -26,6 +26,7 @@ fn begins_comment(byte: u8) -> bool
 }
 
 // How many white bytes the text begins with.
+#[inline(always)]
 fn white_count(text: &[u8]) -> usize
     ensures count { result ≡ prefix_len is_white text.now }
     ensures bound { result ≤ length text.now }
@@ -99,14 +100,6 @@ pub(crate) fn after_gap(text: &[u8]) -> Result<&[u8], PpmFault>
     Ok(rest)
 }
 
-// How many digits the text begins with.
-fn digit_count(text: &[u8]) -> usize
-    ensures count { result ≡ prefix_len is_digit text.now }
-    ensures bound { result ≤ length text.now }
-{
-    text.iter().take_while(|byte| byte.is_ascii_digit()).count()
-}
-
 // Whether a number is cut, since the text ends with it.
 fn is_cut(may_end: bool, rest: &[u8]) -> bool
     ensures { result ≡ is_cut may_end rest.now }
@@ -116,20 +109,22 @@ fn is_cut(may_end: bool, rest: &[u8]) -> bool
 
 // A number, which is all digits that come, and the text after it. With `may_end` it is whole also
 // where it ends with the text.
+#[inline(always)]
 #[tactic(auto, unfolding(crate::specs::Number::number_at))]
 pub(crate) fn number(text: &[u8], may_end: bool) -> Result<(u32, &[u8]), PpmFault>
     ensures read { Gives (λ found. (found.0, found.1.now)) result (number_at may_end text.now) }
     ensures within { IfOk result (λ found. length found.1.now ≤ length text.now) }
 {
-    let (digits, rest) = text.split_at(digit_count(text));
-    if digits.is_empty() {
+    let digits = leading_digits(text);
+    if digits.count == 0 {
         return Err(missing(text));
     }
+    let (_, rest) = text.split_at(digits.count);
     if is_cut(may_end, rest) {
         return Err(PpmFault::Truncated);
     }
-    let Some(value) = value_of(digits) else {
+    if digits.value >= 1 << 32 {
         return Err(PpmFault::BadNumber);
-    };
-    Ok((value, rest))
+    }
+    Ok((digits.value as u32, rest))
 }

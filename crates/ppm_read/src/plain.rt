@@ -31,6 +31,7 @@ fn plain_sample(text: &[u8], maximum: u16, last: bool) -> Result<(u16, &[u8]), P
 }
 
 // A grey pixel, and the text after it.
+#[inline(always)]
 fn grey_pixel(text: &[u8], scale: Scale, last: bool) -> Result<(Rgba, &[u8]), PpmFault>
     requires { IsScale scale }
     ensures { Gives
@@ -43,6 +44,7 @@ fn grey_pixel(text: &[u8], scale: Scale, last: bool) -> Result<(Rgba, &[u8]), Pp
 }
 
 // A pixel of colour, and the text after it.
+#[inline(always)]
 fn colour_pixel(text: &[u8], scale: Scale, last: bool) -> Result<(Rgba, &[u8]), PpmFault>
     requires { IsScale scale }
     ensures { Gives

@@ -13,7 +13,7 @@ ghost use Rattle.picture_rows.specs.Scale.{IsScale};
 use crate::fault::PpmFault;
 use crate::header::{Channels, Head};
 use crate::pixel::{channel_count, opaque};
-use picture_rows::{Rgba, Scale, put_pixel, scale_of, scaled_by};
+use picture_rows::{Rgba, Scale, put_pixel, put_pixel_at_once, scale_of, scaled_by};
 
 // How many bytes a sample has.
 fn sample_length(maximum: u16) -> usize
@@ -23,6 +23,7 @@ fn sample_length(maximum: u16) -> usize
 }
 
 // A sample of two bytes.
+#[inline(always)]
 fn word(row: &[u8], index: usize) -> u16
     requires { 2 * index + 1 < length row.now }
     ensures { result ≡ slice_index (words row.now) index }
@@ -31,6 +32,7 @@ fn word(row: &[u8], index: usize) -> u16
 }
 
 // A sample.
+#[inline(always)]
 fn sample(row: &[u8], index: usize, maximum: u16) -> u16
     requires { index < length (raw_samples maximum row.now) }
     ensures { result ≡ slice_index (raw_samples maximum row.now) index }
@@ -102,11 +104,12 @@ fn write_colour(row: &[u8], into: &mut [u8], width: usize)
     ensures { into.new ≡ rgba Colour row.now }
 {
     for x in 0..width {
-        put_pixel(into, x, opaque(row[3 * x], row[3 * x + 1], row[3 * x + 2]));
+        put_pixel_at_once(into, x, opaque(row[3 * x], row[3 * x + 1], row[3 * x + 2]));
     }
 }
 
 // A sample, as a number up to 255, of a row in which none is above the maximum.
+#[inline(always)]
 fn scaled_sample(row: &[u8], index: usize, scale: Scale) -> u8
     requires scale { IsScale scale }
     requires within { list_any (nat_lt scale.maximum) (raw_samples scale.maximum row.now) ≡ false }
@@ -117,6 +120,7 @@ fn scaled_sample(row: &[u8], index: usize, scale: Scale) -> u8
 }
 
 // A pixel of a row in which no sample is above the maximum.
+#[inline(always)]
 fn pixel(row: &[u8], x: usize, channels: Channels, scale: Scale) -> Rgba
     requires scale { IsScale scale }
     requires within { list_any (nat_lt scale.maximum) (raw_samples scale.maximum row.now) ≡ false }
@@ -140,7 +144,7 @@ fn pixel(row: &[u8], x: usize, channels: Channels, scale: Scale) -> Rgba
 }
 
 // Writes a row in which no sample is above the maximum.
-#[inline(never)]
+#[inline(always)]
 fn write_scaled(row: &[u8], channels: Channels, scale: Scale, into: &mut [u8], width: usize)
     requires scale { IsScale scale }
     requires within { list_any (nat_lt scale.maximum) (raw_samples scale.maximum row.now) ≡ false }
@@ -153,6 +157,23 @@ fn write_scaled(row: &[u8], channels: Channels, scale: Scale, into: &mut [u8], w
     }
 }
 
+// The same. Each kind has a loop of its own, with no branch in it.
+#[inline(never)]
+fn write_share(row: &[u8], channels: Channels, scale: Scale, into: &mut [u8], width: usize)
+    requires scale { IsScale scale }
+    requires within { list_any (nat_lt scale.maximum) (raw_samples scale.maximum row.now) ≡ false }
+    requires row { length (raw_samples scale.maximum row.now) ≡ channel_count channels * width }
+    requires into { length into.old ≡ 4 * width }
+    ensures { into.new ≡ rgba channels (map (scaled scale.maximum) (raw_samples scale.maximum row.now)) }
+{
+    match (channels, scale.maximum < 256) {
+        (Channels::Grey, true) => write_scaled(row, Channels::Grey, scale, into, width),
+        (Channels::Grey, false) => write_scaled(row, Channels::Grey, scale, into, width),
+        (Channels::Colour, true) => write_scaled(row, Channels::Colour, scale, into, width),
+        (Channels::Colour, false) => write_scaled(row, Channels::Colour, scale, into, width),
+    }
+}
+
 // Writes a row in which no sample is above the maximum, by the shortest way.
 fn write_row(row: &[u8], channels: Channels, maximum: u16, into: &mut [u8], width: usize)
     requires maximum { 1 ≤ maximum }
@@ -162,7 +183,7 @@ fn write_row(row: &[u8], channels: Channels, maximum: u16, into: &mut [u8], widt
     ensures { into.new ≡ rgba channels (map (scaled maximum) (raw_samples maximum row.now)) }
 {
     if maximum != 255 {
-        return write_scaled(row, channels, scale_of(maximum), into, width);
+        return write_share(row, channels, scale_of(maximum), into, width);
     }
     match channels {
         Channels::Grey => write_grey(row, into),

@@ -53,7 +53,13 @@ fn time_config(
 
 /// Times the packing of rows and a crop.
 pub fn time(rt: &impl Runtime, alloc: Global) -> Result<()> {
-    time_config(rt, alloc, Config::Argb8888, "pack argb8888", "crop argb8888")?;
+    time_config(
+        rt,
+        alloc,
+        Config::Argb8888,
+        "pack argb8888",
+        "crop argb8888",
+    )?;
     time_config(rt, alloc, Config::Rgb565, "pack rgb565", "crop rgb565")?;
     time_config(rt, alloc, Config::Alpha8, "pack alpha8", "crop alpha8")
 }

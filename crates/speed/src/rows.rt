@@ -88,7 +88,6 @@ fn bmp_header(alloc: Global, bits: u16, compression: u32) -> Result<Vec<u8>> {
     Ok(header)
 }
 
-
 fn time_ppm(rt: &impl Runtime, alloc: Global, header: &str, unit: &[u8]) -> Result<()> {
     let text = text_of(alloc, header.as_bytes(), unit)?;
     let mut row = vec![in alloc; 0u8; 16000]?;
@@ -97,13 +96,7 @@ fn time_ppm(rt: &impl Runtime, alloc: Global, header: &str, unit: &[u8]) -> Resu
 }
 
 // The masks, if there are some, follow the header, and the compression says so.
-fn time_bmp(
-    rt: &impl Runtime,
-    alloc: Global,
-    name: &str,
-    bits: u16,
-    masks: &[u32],
-) -> Result<()> {
+fn time_bmp(rt: &impl Runtime, alloc: Global, name: &str, bits: u16, masks: &[u32]) -> Result<()> {
     let compression = if masks.is_empty() { 0 } else { 3 };
     let mut header = bmp_header(alloc, bits, compression)?;
     for mask in masks {
