@@ -12,7 +12,7 @@ use Rattle.picture_rows.specs.Reading.{◌>>=◌}
 use Rattle.ppm_read.specs.Number.{is_white, missing_at, begins_with}
 use Rattle.ppm_read.specs.Header.{kind_of, magic_at, part_at, size_at, maximum_at, raster_at, head_of}
 use Rattle.ppm_read.specs.Spelling.{IsPart}
-use Rattle.ppm_read.specs.Breaking.{goes_on, PartBreaks, HasKind, HasWidth, HasSides, HasMaximum, Breaks, no_magic, in_width, in_height, no_size, in_maximum, no_maximum, no_end}
+use Rattle.ppm_read.specs.Breaking.{goes_on, PartBreaks, HasKind, HasWidth, HasSides, HasMaximum, HeaderBreaks, no_magic, in_width, in_height, no_size, in_maximum, no_maximum, no_end}
 use Rattle.ppm_read.proofs.Chains.{bind_ok, bind_err, cond_ok, inside, err_inside}
 use Rattle.ppm_read.proofs.Gaps.{and_both, both_true, part_front, part_spelled}
 use Rattle.ppm_read.proofs.Headers.{magic_front}
@@ -196,16 +196,16 @@ test_err : {A : Type 0} (b : Bool) (x : A) (c d : PpmFault) → cond b (Ok x) (E
 test_err true x c d e = cc
 test_err false x c d e = (refl, err_inside c d e)
 
-size_err : (text : List ℕ) (f : PpmFault) (kind : Channels × Format) (before : List ℕ) → HasKind text kind before → size_at before ≡ Err f → Breaks text f
+size_err : (text : List ℕ) (f : PpmFault) (kind : Channels × Format) (before : List ℕ) → HasKind text kind before → size_at before ≡ Err f → HeaderBreaks text f
 unfolding size_at
 size_err text f kind before has e = first (bind_err (part_at before) (λ width. part_at width.1 >>= (λ height. tested_size width.0 height.0 height.1)) f e) where
-  second : (x : ℕ × List ℕ) → HasWidth text kind x.0 x.1 → (part_at x.1 ≡ Err f) ⊎ ((y : ℕ × List ℕ) × (part_at x.1 ≡ Ok y) × (tested_size x.0 y.0 y.1 ≡ Err f)) → Breaks text f
+  second : (x : ℕ × List ℕ) → HasWidth text kind x.0 x.1 → (part_at x.1 ≡ Err f) ⊎ ((y : ℕ × List ℕ) × (part_at x.1 ≡ Ok y) × (tested_size x.0 y.0 y.1 ≡ Err f)) → HeaderBreaks text f
   second x wide (inl e) = in_height f kind x.0 x.1 wide (part_err x.1 f e)
   second x wide (inr (y, is, e)) =
       let test = test_err (ltb 0 x.0 && ltb 0 y.0) (x.0, y.0, y.1) BadSize f e in
-      subst (Breaks text) test.1 (no_size kind x.0 y.0 y.1 (has_sides text kind x.0 x.1 y wide is) (zero_side x.0 y.0 test.0))
+      subst (HeaderBreaks text) test.1 (no_size kind x.0 y.0 y.1 (has_sides text kind x.0 x.1 y wide is) (zero_side x.0 y.0 test.0))
 
-  first : (part_at before ≡ Err f) ⊎ ((x : ℕ × List ℕ) × (part_at before ≡ Ok x) × ((part_at x.1 >>= (λ height. tested_size x.0 height.0 height.1)) ≡ Err f)) → Breaks text f
+  first : (part_at before ≡ Err f) ⊎ ((x : ℕ × List ℕ) × (part_at before ≡ Ok x) × ((part_at x.1 >>= (λ height. tested_size x.0 height.0 height.1)) ≡ Err f)) → HeaderBreaks text f
   first (inl e) = in_width f kind before has (part_err before f e)
   first (inr (x, is, e)) = second x (has_width text kind before x has is) (bind_err (part_at x.1) (λ height. tested_size x.0 height.0 height.1) f e)
 
@@ -232,21 +232,21 @@ has_maximum text kind s x sized e =
     let part = part_front s.2 x.0 x.1 e in
     record { w = s.0; h = s.1; before = s.2; maximum = part.part; has_sides = sized.has; wide = sized.wide; high = sized.high; is_maximum = part.is_part; spelled = part.spelled; goes = stops_goes x.1 part.stops part.whole }
 
-maximum_err : (text : List ℕ) (f : PpmFault) (kind : Channels × Format) (s : ℕ × ℕ × List ℕ) → Sized text kind s → maximum_at s.2 ≡ Err f → Breaks text f
+maximum_err : (text : List ℕ) (f : PpmFault) (kind : Channels × Format) (s : ℕ × ℕ × List ℕ) → Sized text kind s → maximum_at s.2 ≡ Err f → HeaderBreaks text f
 maximum_err text f kind s sized e = first (bind_err (part_at s.2) tested_maximum f (sym (maximum_part s.2) ∙ e)) where
-  first : (part_at s.2 ≡ Err f) ⊎ ((x : ℕ × List ℕ) × (part_at s.2 ≡ Ok x) × (tested_maximum x ≡ Err f)) → Breaks text f
+  first : (part_at s.2 ≡ Err f) ⊎ ((x : ℕ × List ℕ) × (part_at s.2 ≡ Ok x) × (tested_maximum x ≡ Err f)) → HeaderBreaks text f
   first (inl e) = in_maximum f kind s.0 s.1 s.2 sized.has sized.wide sized.high (part_err s.2 f e)
   first (inr (x, is, e)) =
       let test = test_err (ltb 0 x.0 && leb x.0 65535) x BadMaximum f e in
-      subst (Breaks text) test.1 (no_maximum kind x.0 x.1 (has_maximum text kind s x sized is) (wrong_maximum x.0 test.0))
+      subst (HeaderBreaks text) test.1 (no_maximum kind x.0 x.1 (has_maximum text kind s x sized is) (wrong_maximum x.0 test.0))
 
-end_err : (text : List ℕ) (f : PpmFault) (kind : Channels × Format) (m : ℕ) (rest : List ℕ) → HasMaximum text kind m rest → 1 ≤ m → m ≤ 65535 → raster_at kind.1 rest ≡ Err f → Breaks text f
+end_err : (text : List ℕ) (f : PpmFault) (kind : Channels × Format) (m : ℕ) (rest : List ℕ) → HasMaximum text kind m rest → 1 ≤ m → m ≤ 65535 → raster_at kind.1 rest ≡ Err f → HeaderBreaks text f
 end_err text f (channels, Plain) m rest has low most e = cc
 end_err text f (channels, Raw) m rest has low most e =
     let test = test_err (begins_with is_white rest) (drop 1 rest) (missing_at rest) f e in
-    subst (Breaks text) (sym (goes_missing rest has.goes) ∙ test.1) (no_end channels m rest has low most test.0)
+    subst (HeaderBreaks text) (sym (goes_missing rest has.goes) ∙ test.1) (no_end channels m rest has low most test.0)
 
-last_err : (text : List ℕ) (f : PpmFault) (kind : Channels × Format) (s : ℕ × ℕ × List ℕ) (m : ℕ × List ℕ) → Sized text kind s → maximum_at s.2 ≡ Ok m → at_raster text kind.0 kind.1 s.0 s.1 m.0 m.1 ≡ Err f → Breaks text f
+last_err : (text : List ℕ) (f : PpmFault) (kind : Channels × Format) (s : ℕ × ℕ × List ℕ) (m : ℕ × List ℕ) → Sized text kind s → maximum_at s.2 ≡ Ok m → at_raster text kind.0 kind.1 s.0 s.1 m.0 m.1 ≡ Err f → HeaderBreaks text f
 last_err text f kind s m sized is e =
     let part = bind_ok (part_at s.2) tested_maximum m (sym (maximum_part s.2) ∙ is) in
     let test = cond_ok (ltb 0 part.0.0 && leb part.0.0 65535) (Ok part.0) BadMaximum m part.2 in
@@ -259,23 +259,23 @@ last_err text f kind s m sized is e =
       made : List ℕ → Result Head PpmFault
       made r = Ok record { width = s.0; height = s.1; channels = kind.0; format = kind.1; maximum = m.0; raster_start = length text - length r }
 
-      by : HasMaximum text kind m.0 m.1 → 1 ≤ m.0 → m.0 ≤ 65535 → (raster_at kind.1 m.1 ≡ Err f) ⊎ ((r : List ℕ) × (raster_at kind.1 m.1 ≡ Ok r) × (made r ≡ Err f)) → Breaks text f
+      by : HasMaximum text kind m.0 m.1 → 1 ≤ m.0 → m.0 ≤ 65535 → (raster_at kind.1 m.1 ≡ Err f) ⊎ ((r : List ℕ) × (raster_at kind.1 m.1 ≡ Ok r) × (made r ≡ Err f)) → HeaderBreaks text f
       by has low most (inl e) = end_err text f kind m.0 m.1 has low most e
       by has low most (inr (r, is, e)) = cc
 
-pub head_err : (text : List ℕ) (f : PpmFault) → head_of text ≡ Err f → Breaks text f
+pub head_err : (text : List ℕ) (f : PpmFault) → head_of text ≡ Err f → HeaderBreaks text f
 unfolding head_of
 head_err text f e = magic (bind_err (magic_at text) (λ kind. at_size text kind.0 kind.1 kind.2) f e) where
-  at_end : (kind : Channels × Format) (s : ℕ × ℕ × List ℕ) → Sized text kind s → (maximum_at s.2 ≡ Err f) ⊎ ((m : ℕ × List ℕ) × (maximum_at s.2 ≡ Ok m) × (at_raster text kind.0 kind.1 s.0 s.1 m.0 m.1 ≡ Err f)) → Breaks text f
+  at_end : (kind : Channels × Format) (s : ℕ × ℕ × List ℕ) → Sized text kind s → (maximum_at s.2 ≡ Err f) ⊎ ((m : ℕ × List ℕ) × (maximum_at s.2 ≡ Ok m) × (at_raster text kind.0 kind.1 s.0 s.1 m.0 m.1 ≡ Err f)) → HeaderBreaks text f
   at_end kind s sized (inl e) = maximum_err text f kind s sized e
   at_end kind s sized (inr (m, is, e)) = last_err text f kind s m sized is e
 
-  sides : (kind : Channels × Format) (before : List ℕ) → HasKind text kind before → (size_at before ≡ Err f) ⊎ ((s : ℕ × ℕ × List ℕ) × (size_at before ≡ Ok s) × (at_maximum text kind.0 kind.1 s.0 s.1 s.2 ≡ Err f)) → Breaks text f
+  sides : (kind : Channels × Format) (before : List ℕ) → HasKind text kind before → (size_at before ≡ Err f) ⊎ ((s : ℕ × ℕ × List ℕ) × (size_at before ≡ Ok s) × (at_maximum text kind.0 kind.1 s.0 s.1 s.2 ≡ Err f)) → HeaderBreaks text f
   sides kind before has (inl e) = size_err text f kind before has e
   sides kind before has (inr (s, is, e)) = at_end kind s (sized_front text kind before s has is) (bind_err (maximum_at s.2) (λ m. at_raster text kind.0 kind.1 s.0 s.1 m.0 m.1) f e)
 
-  magic : (magic_at text ≡ Err f) ⊎ ((x : Channels × Format × List ℕ) × (magic_at text ≡ Ok x) × (at_size text x.0 x.1 x.2 ≡ Err f)) → Breaks text f
-  magic (inl e) = subst (Breaks text) (magic_err text f e) (no_magic (λ kind rest has. unlike kind rest (sym (kind_reads text kind rest has) ∙ e))) where
+  magic : (magic_at text ≡ Err f) ⊎ ((x : Channels × Format × List ℕ) × (magic_at text ≡ Ok x) × (at_size text x.0 x.1 x.2 ≡ Err f)) → HeaderBreaks text f
+  magic (inl e) = subst (HeaderBreaks text) (magic_err text f e) (no_magic (λ kind rest has. unlike kind rest (sym (kind_reads text kind rest has) ∙ e))) where
     unlike : (kind : Channels × Format) (rest : List ℕ) → ◌≡◌ {A = Result (Channels × Format × List ℕ) PpmFault} (Ok (kind.0, kind.1, rest)) (Err f) → ⊥
     unlike kind rest e = cc
   magic (inr (x, is, e)) = sides (x.0, x.1) x.2 (kind_front text x is) (bind_err (size_at x.2) (λ s. at_maximum text x.0 x.1 s.0 s.1 s.2) f e)

@@ -1,5 +1,5 @@
 -- Each text has the outcome that its grammar says.
-use Rattle.std.proofs.Common.{◌≡◌, ◌⊎◌, inl, inr, ℕ, ◌<◌, true, List, ◌++◌, drop, Result, Ok, Err, Some, None, sym, ap, subst, ◌∙◌}
+use Rattle.std.proofs.Common.{◌≡◌, ◌⊎◌, inl, inr, ℕ, ◌<◌, true, List, ◌++◌, length, drop, Result, Ok, Err, Some, None, sym, ap, subst, ◌∙◌, arith, length-append}
 use Rattle.std.proofs.Math.Seq.{drop-append_seam}
 use Rattle.std.specs.List.{concat}
 use Rattle.std.specs.declared.option.Option.{Option}
@@ -11,7 +11,7 @@ use Rattle.picture_rows.specs.Reading.{◌>>=◌, unless_fault}
 use Rattle.ppm_read.specs.Header.{head_of}
 use Rattle.ppm_read.specs.Raster.{channel_count, samples_at, rows_of}
 use Rattle.ppm_read.specs.Full.{rows_under, full_picture_under, full_picture}
-use Rattle.ppm_read.specs.Breaking.{BeginsSamples, sample_count, Breaks, no_magic, in_width, in_height, no_size, in_maximum, no_maximum, no_end, in_raster}
+use Rattle.ppm_read.specs.Breaking.{BeginsSamples, sample_count, HeaderBreaks, Breaks, HasHeader, no_magic, in_width, in_height, no_size, in_maximum, no_maximum, no_end, in_header, in_raster}
 use Rattle.ppm_read.proofs.Chains.{bind_err, bind_fails}
 use Rattle.ppm_read.proofs.Headers.{header_front, header_spelled, placed, BeginsRaster}
 use Rattle.ppm_read.proofs.HeaderFaults.{head_err, magic_fails, width_fails, height_fails, size_breaks, maximum_fails, maximum_breaks, end_fails}
@@ -53,7 +53,7 @@ raster_err text f head is e =
 pub breaks_from_read : (text : List ℕ) (f : PpmFault) → full_picture text ≡ Err f → Breaks text f
 breaks_from_read text f e = by (bind_err (head_of text) (λ head. full_picture_under head text) f e) where
   by : (head_of text ≡ Err f) ⊎ ((head : Head) × (head_of text ≡ Ok head) × (full_picture_under head text ≡ Err f)) → Breaks text f
-  by (inl e) = head_err text f e
+  by (inl e) = in_header f (head_err text f e)
   by (inr (head, is, e)) = raster_err text f head is e
 
 -- a text that breaks a rule has no picture
@@ -70,15 +70,36 @@ raster_fails text f head header rest spelled read some broken =
 from_head : (text : List ℕ) (f : PpmFault) → head_of text ≡ Err f → full_picture text ≡ Err f
 from_head text f e = bind_fails (head_of text) (λ head. full_picture_under head text) f e
 
+pub header_fails : (text : List ℕ) (f : PpmFault) → HeaderBreaks text f → head_of text ≡ Err f
+header_fails text f (no_magic none) = magic_fails text none
+header_fails text f (in_width g kind rest has breaks) = width_fails text g kind rest has breaks
+header_fails text f (in_height g kind w rest has breaks) = height_fails text g kind w rest has breaks
+header_fails text f (no_size kind w h rest has none) = size_breaks text kind w h rest has none
+header_fails text f (in_maximum g kind w h rest has wide high breaks) = maximum_fails text g kind w h rest has wide high breaks
+header_fails text f (no_maximum kind m rest has wrong) = maximum_breaks text kind m rest has wrong
+header_fails text f (no_end channels m rest has low most none) = end_fails text channels m rest has low most none
+
 pub read_from_breaks : (text : List ℕ) (f : PpmFault) → Breaks text f → full_picture text ≡ Err f
-read_from_breaks text f (no_magic none) = from_head text f (magic_fails text none)
-read_from_breaks text f (in_width g kind rest has breaks) = from_head text g (width_fails text g kind rest has breaks)
-read_from_breaks text f (in_height g kind w rest has breaks) = from_head text g (height_fails text g kind w rest has breaks)
-read_from_breaks text f (no_size kind w h rest has none) = from_head text f (size_breaks text kind w h rest has none)
-read_from_breaks text f (in_maximum g kind w h rest has wide high breaks) = from_head text g (maximum_fails text g kind w h rest has wide high breaks)
-read_from_breaks text f (no_maximum kind m rest has wrong) = from_head text f (maximum_breaks text kind m rest has wrong)
-read_from_breaks text f (no_end channels m rest has low most none) = from_head text f (end_fails text channels m rest has low most none)
+read_from_breaks text f (in_header g breaks) = from_head text g (header_fails text g breaks)
 read_from_breaks text f (in_raster g head samples header raster rest is begins are few may spelled breaks) =
     let some : 0 < row_count head = some_product (channel_count head.channels) head.width (channels_some head.channels) is.wide in
     raster_fails text g head header (raster ++ rest) spelled (header_spelled head header (raster ++ rest) is (begins_raster head.format (raster ++ rest) begins)) some
     (samples_break head.format head.maximum true (sample_count head) samples raster rest g are few may breaks)
+
+-- the header that a text begins with
+pub header_from_read : (text : List ℕ) (head : Head) → head_of text ≡ Ok head → HasHeader text head
+header_from_read text head e =
+    let front = header_front text head e in
+    record {
+      header = front.header;
+      rest = front.rest;
+      is_header = front.is_header;
+      begins = begins_samples head.format front.rest front.begins;
+      spelled = front.spelled;
+      start = omega (arith, front.start, ap length front.spelled, length-append front.header front.rest);
+    }
+
+pub read_from_header : (text : List ℕ) (head : Head) → HasHeader text head → head_of text ≡ Ok head
+read_from_header text head has =
+    ap head_of has.spelled ∙ header_spelled head has.header has.rest has.is_header (begins_raster head.format has.rest has.begins)
+    ∙ ap (λ n. Ok (record head { raster_start = n })) (sym has.start)

@@ -111,18 +111,36 @@ abbrev pub BeginsSamples : Format → List ℕ → Type 0
 BeginsSamples Plain rest = goes_on rest ≡ true
 BeginsSamples Raw rest = ⊤
 
--- The rules in their order. Each line but the last says what is wrong with the header, the last what is wrong with the raster.
+-- The rules of the header in their order: what is wrong with a text before its raster begins.
+pub data HeaderBreaks (text : List ℕ) : PpmFault → Type 0 where
+  no_magic : ((kind : Channels × Format) (rest : List ℕ) → HasKind text kind rest → ⊥) → HeaderBreaks text BadMagic
+  in_width : (fault : PpmFault) (kind : Channels × Format) (rest : List ℕ) → HasKind text kind rest → PartBreaks rest fault → HeaderBreaks text fault
+  in_height : (fault : PpmFault) (kind : Channels × Format) (w : ℕ) (rest : List ℕ) → HasWidth text kind w rest → PartBreaks rest fault → HeaderBreaks text fault
+  no_size : (kind : Channels × Format) (w h : ℕ) (rest : List ℕ) → HasSides text kind w h rest → (w ≡ 0) ⊎ (h ≡ 0) → HeaderBreaks text BadSize
+  in_maximum : (fault : PpmFault) (kind : Channels × Format) (w h : ℕ) (rest : List ℕ) → HasSides text kind w h rest → 1 ≤ w → 1 ≤ h → PartBreaks rest fault → HeaderBreaks text fault
+  no_maximum : (kind : Channels × Format) (m : ℕ) (rest : List ℕ) → HasMaximum text kind m rest → (m ≡ 0) ⊎ (65535 < m) → HeaderBreaks text BadMaximum
+  no_end : (channels : Channels) (m : ℕ) (rest : List ℕ) → HasMaximum text (channels, Raw) m rest → 1 ≤ m → m ≤ 65535 → begins_with is_white rest ≡ false → HeaderBreaks text BadNumber
+
+-- the header's rules, and then the raster's
 pub data Breaks (text : List ℕ) : PpmFault → Type 0 where
-  no_magic : ((kind : Channels × Format) (rest : List ℕ) → HasKind text kind rest → ⊥) → Breaks text BadMagic
-  in_width : (fault : PpmFault) (kind : Channels × Format) (rest : List ℕ) → HasKind text kind rest → PartBreaks rest fault → Breaks text fault
-  in_height : (fault : PpmFault) (kind : Channels × Format) (w : ℕ) (rest : List ℕ) → HasWidth text kind w rest → PartBreaks rest fault → Breaks text fault
-  no_size : (kind : Channels × Format) (w h : ℕ) (rest : List ℕ) → HasSides text kind w h rest → (w ≡ 0) ⊎ (h ≡ 0) → Breaks text BadSize
-  in_maximum : (fault : PpmFault) (kind : Channels × Format) (w h : ℕ) (rest : List ℕ) → HasSides text kind w h rest → 1 ≤ w → 1 ≤ h → PartBreaks rest fault → Breaks text fault
-  no_maximum : (kind : Channels × Format) (m : ℕ) (rest : List ℕ) → HasMaximum text kind m rest → (m ≡ 0) ⊎ (65535 < m) → Breaks text BadMaximum
-  no_end : (channels : Channels) (m : ℕ) (rest : List ℕ) → HasMaximum text (channels, Raw) m rest → 1 ≤ m → m ≤ 65535 → begins_with is_white rest ≡ false → Breaks text BadNumber
+  in_header : (fault : PpmFault) → HeaderBreaks text fault → Breaks text fault
   in_raster : (fault : PpmFault) (head : Head) (samples header raster rest : List ℕ) → IsHeader head header → BeginsSamples head.format (raster ++ rest) → AreSamples head.format head.maximum samples raster
       → length samples < sample_count head → (0 < length samples → MayStand head.format false rest) → text ≡ header ++ (raster ++ rest)
       → SampleBreaks head.maximum (length samples + 1 == sample_count head) rest head.format fault → Breaks text fault
+
+-- The text begins with a header of this size, kind and maximum, and the raster begins where the header ends.
+pub record HasHeader (text : List ℕ) (head : Head) : Type 0 where
+  pub header : List ℕ
+  pub rest : List ℕ
+  pub is_header : IsHeader head header
+  pub begins : BeginsSamples head.format rest
+  pub spelled : text ≡ header ++ rest
+  pub start : head.raster_start ≡ length header
+
+-- a text has the header that it begins with, or the fault of the first of the header's rules that it breaks
+abbrev pub IsHeaderOutcome : List ℕ → Result Head PpmFault → Type 0
+IsHeaderOutcome text (Ok head) = HasHeader text head
+IsHeaderOutcome text (Err fault) = HeaderBreaks text fault
 
 -- a text has the picture that it spells, or the fault of the first rule that it breaks
 abbrev pub IsOutcome : List ℕ → Result FullPicture PpmFault → Type 0

@@ -11,7 +11,7 @@ mod raw;
 mod rows;
 
 pub use fault::PpmFault;
-pub use grammar::every_text_has_its_outcome;
+pub use grammar::{every_text_has_its_header, every_text_has_its_outcome};
 pub use header::{Head, read_head};
 pub use rows::Rows;
 
