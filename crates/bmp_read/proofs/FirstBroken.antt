@@ -18,7 +18,7 @@ use Rattle.bmp_read.specs.Pixel.{bits_of}
 use Rattle.picture_rows.specs.RowsLeft.{RowsLeft}
 use Rattle.bmp_read.specs.Raster.{has_raster, last_rows}
 use Rattle.bmp_read.specs.Full.{full_picture, full_picture_under, rows_under}
-use Rattle.bmp_read.specs.Rules.{Rule, unsigned, raster_end, rules, first_broken}
+use Rattle.bmp_read.specs.Rules.{Rule, unsigned, raster_end, header_rules, raster_rule, rules, first_broken}
 use Rattle.bmp_read.proofs.Heads.{rule_ok, bind_ok}
 
 -- one rule in front of others
@@ -322,11 +322,14 @@ end_is text head e =
     raster_is text head (u32_at 18 text) (u16_at 28 text) (unsigned (u32_at 22 text)) (size.0 ∙ ap (λ head. head.width) is) (ap bits_of (sym (ap (λ head. head.format) is)) ∙ bits)
     (size.1 ∙ ap (λ head. head.height) is) (sym (ap (λ head. head.raster_start) is))
 
+-- the fault of a header is that of the first of its rules that is broken
+pub header_first : (text : List ℕ) → fault_of (head_of text) ≡ first_broken (header_rules text)
+unfolding header_rules
+header_first text = head_fault text
+
 -- A text has no picture exactly where it breaks a rule, and its fault is that of the first.
 pub fault_first : (text : List ℕ) → fault_of (full_picture text) ≡ first_broken (rules text)
-unfolding rules
+unfolding raster_rule
 fault_first text =
-    let end : ℕ = raster_end (u32_at 10 text) (u32_at 18 text) (u16_at 28 text) (unsigned (u32_at 22 text)) in
-    bind_fault (head_of text) (λ head. full_picture_under head text) (info_rules text ++ (size_rules text ++ (depth_rules text ++ (format_rules text ++ [])))) (record { kept = leb end (length text); fault = Truncated } ∷ [])
-    (head_fault text)
+    bind_fault (head_of text) (λ head. full_picture_under head text) (header_rules text) (raster_rule text ∷ []) (header_first text)
     (λ head e. raster_fault head text ∙ ap (λ inside. first_broken (record { kept = inside; fault = Truncated } ∷ [])) (end_is text head e))

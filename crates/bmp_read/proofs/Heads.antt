@@ -1,5 +1,6 @@
 -- What the rules of the headers say of a head.
-use Rattle.std.proofs.Common.{◌≡◌, ℕ, ◌+◌, ◌-◌, ◌*◌, ◌^◌, ◌≤◌, ◌<◌, ◌||◌, Bool, true, false, cond, eqb, ltb, leb, List, length, get_or, Result, Ok, Err, refl, sym, ap, subst, ◌∙◌, arith}
+use Rattle.std.proofs.Common.{◌≡◌, ◌⊎◌, inl, inr, ℕ, ◌+◌, ◌-◌, ◌*◌, ◌^◌, ◌≤◌, ◌<◌, ◌||◌, Bool, true, false, cond, eqb, ltb, leb, List, length, get_or, Result, Ok, Err, refl, sym, ap, subst, ◌∙◌, arith}
+use Rattle.std.proofs.Math.Nat.{eq-or-lt_of_le}
 use Rattle.std.proofs.lemmas.Bool.Decides.{nat_tests}
 use Rattle.bmp_read.specs.declared.fault.BmpFault.{BmpFault}
 use Rattle.bmp_read.specs.declared.fault.BmpFault.TheVariants.{BadSize, Truncated}
@@ -12,7 +13,7 @@ use Rattle.bmp_read.specs.declared.format.Masks.{Masks}
 use Rattle.bmp_read.specs.declared.format.Palette.{Palette}
 use Rattle.picture_rows.specs.Reading.{◌>>=◌}
 use Rattle.bmp_read.specs.Bytes.{u32_at}
-use Rattle.bmp_read.specs.Header.{info_size_at, size_at, depth_at, masks_at, palette_count, palette_at, indexed, masked, direct, format_of, head_of}
+use Rattle.bmp_read.specs.Header.{IsSide, HasSides, info_size_at, size_at, depth_at, masks_at, palette_count, palette_at, indexed, masked, direct, format_of, head_of}
 use Rattle.bmp_read.specs.Pixel.{IsPaletteInside, HasPalette}
 
 -- a part that is read
@@ -38,23 +39,44 @@ by_sign-is : (width height : ℕ) (above : Bool) → cond above (Ok (width, heig
 by_sign-is width height true = refl
 by_sign-is width height false = refl
 
-high_by_sign : (width height : ℕ) (above : Bool) (found : ℕ × ℕ × RowOrder) → 0 < height → height < 2 ^ 32 → by_sign width height above ≡ Ok found → 1 ≤ found.1
-high_by_sign width height true found positive bound e = let h : height ≡ found.1 = cc in omega arith
-high_by_sign width height false found positive bound e = let h : 2 ^ 32 - height ≡ found.1 = cc in omega arith
+above_least : (height : ℕ) → 2 ^ 31 ≤ height → (height ≡ 2 ^ 31 → ⊥) → 2 ^ 31 < height
+above_least height large least = by (eq-or-lt_of_le large) where
+  by : (2 ^ 31 ≡ height) ⊎ (2 ^ 31 < height) → 2 ^ 31 < height
+  by (inl is) = absurd (least (sym is))
+  by (inr more) = more
+
+sides_by_sign : (width height : ℕ) (above : Bool) (found : ℕ × ℕ × RowOrder) → IsSide width → ltb height (2 ^ 31) ≡ above → 0 < height → height < 2 ^ 32 → (height ≡ 2 ^ 31 → ⊥) → by_sign width height above ≡ Ok found → IsSide found.0 × IsSide found.1
+sides_by_sign width height true found wide test positive bound least e =
+    let w : width ≡ found.0 = cc in
+    let h : height ≡ found.1 = cc in
+    let small : height < 2 ^ 31 = grind (arith, nat_tests) in
+    ((omega (arith, wide.0), omega (arith, wide.1)), (omega arith, omega arith))
+sides_by_sign width height false found wide test positive bound least e =
+    let w : width ≡ found.0 = cc in
+    let h : 2 ^ 32 - height ≡ found.1 = cc in
+    let large : 2 ^ 31 ≤ height = grind (arith, nat_tests) in
+    let more : 2 ^ 31 < height = above_least height large least in
+    ((omega (arith, wide.0), omega (arith, wide.1)), (omega arith, omega arith))
+
+is_wide : (width : ℕ) → (eqb width 0 || leb (2 ^ 31) width) ≡ false → IsSide width
+is_wide width e = (grind (arith, nat_tests), grind (arith, nat_tests))
 
 not_zero : (height : ℕ) → (eqb height 0 || eqb height (2 ^ 31)) ≡ false → 0 < height
 not_zero height e = grind (arith, nat_tests)
 
--- the height that is read is at least 1
-high : (text : List ℕ) (found : ℕ × ℕ × RowOrder) → ((i : ℕ) → get_or text i 0 < 256) → size_at text ≡ Ok found → 1 ≤ found.1
+not_least : (height : ℕ) → (eqb height 0 || eqb height (2 ^ 31)) ≡ false → height ≡ 2 ^ 31 → ⊥
+not_least height e is = grind (arith, nat_tests)
+
+-- the sides that are read are sides
+sides : (text : List ℕ) (found : ℕ × ℕ × RowOrder) → ((i : ℕ) → get_or text i 0 < 256) → size_at text ≡ Ok found → IsSide found.0 × IsSide found.1
 unfolding size_at
-high text found bytes e =
+sides text found bytes e =
     let width : ℕ = u32_at 18 text in
     let height : ℕ = u32_at 22 text in
     let signed : Result (ℕ × ℕ × RowOrder) BmpFault = cond (ltb height (2 ^ 31)) (Ok (width, height, BottomFirst)) (Ok (width, 2 ^ 32 - height, TopFirst)) in
     let first = rule_ok (eqb width 0 || leb (2 ^ 31) width) BadSize (cond (eqb height 0 || eqb height (2 ^ 31)) (Err BadSize) signed) found e in
     let second = rule_ok (eqb height 0 || eqb height (2 ^ 31)) BadSize signed found first.1 in
-    high_by_sign width height (ltb height (2 ^ 31)) found (not_zero height second.0) (u32_at-bound 22 text bytes) (sym (by_sign-is width height (ltb height (2 ^ 31))) ∙ second.1)
+    sides_by_sign width height (ltb height (2 ^ 31)) found (is_wide width first.0) refl (not_zero height second.0) (u32_at-bound 22 text bytes) (not_least height second.0) (sym (by_sign-is width height (ltb height (2 ^ 31))) ∙ second.1)
 
 inside : (n end : ℕ) → ltb n end ≡ false → end ≤ n
 inside n end e = grind (arith, nat_tests)
@@ -104,7 +126,7 @@ unfolding format_of
 format_palette info_size compression bits text format e = by_kind (eqb compression 3) (leb bits 8) info_size bits text format e
 
 -- the facts of a head that rows need
-pub head_facts : (text : List ℕ) (head : Head) → ((i : ℕ) → get_or text i 0 < 256) → head_of text ≡ Ok head → (1 ≤ head.height) × HasPalette head.format text
+pub head_facts : (text : List ℕ) (head : Head) → ((i : ℕ) → get_or text i 0 < 256) → head_of text ≡ Ok head → HasSides head × HasPalette head.format text
 unfolding head_of
 head_facts text head bytes e =
     let one = bind_ok (info_size_at text) _ head e in
@@ -114,4 +136,7 @@ head_facts text head bytes e =
     let is : record { width = two.0.0; height = two.0.1; order = two.0.2; format = four.0; raster_start = u32_at 10 text } ≡ head = cc (four.2) in
     let height : two.0.1 ≡ head.height = ap (λ head. head.height) is in
     let format : four.0 ≡ head.format = ap (λ head. head.format) is in
-    (omega (arith, height, high text two.0 bytes two.1), subst (λ format. HasPalette format text) format (format_palette one.0 three.0.0 three.0.1 text four.0 four.1))
+    let width : two.0.0 ≡ head.width = ap (λ head. head.width) is in
+    let both = sides text two.0 bytes two.1 in
+    let has : HasSides head = record { wide = (omega (arith, width, both.0.0), omega (arith, width, both.0.1)); high = (omega (arith, height, both.1.0), omega (arith, height, both.1.1)) } in
+    (has, subst (λ format. HasPalette format text) format (format_palette one.0 three.0.0 three.0.1 text four.0 four.1))

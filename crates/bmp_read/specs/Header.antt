@@ -1,7 +1,7 @@
 -- The headers of a Windows bitmap: the file header, BITMAPFILEHEADER, of 14 bytes, and behind it an info header, which is
 -- BITMAPINFOHEADER, BITMAPV4HEADER or BITMAPV5HEADER. A place is counted in bytes from the text's beginning. Which rules there are,
 -- their order, that masks are runs of 1 bits and that all other fields are ignored, is this project's own.
-use Rattle.std.specs.Prelude.{ℕ, ◌+◌, ◌-◌, ◌*◌, ◌/◌, ◌^◌, Bool, false, not, ◌&&◌, ◌||◌, ◌==◌, nat_le, nat_lt, List, [], ◌∷◌, length, if◌then◌else◌, Ok, Err, Result}
+use Rattle.std.specs.Prelude.{ℕ, ◌+◌, ◌-◌, ◌*◌, ◌/◌, ◌^◌, ◌<◌, ◌≤◌, Bool, false, not, ◌&&◌, ◌||◌, ◌==◌, nat_le, nat_lt, List, [], ◌∷◌, length, if◌then◌else◌, Ok, Err, Result}
 use Rattle.std.specs.Int.{w32, trailing_zeros, is_power_of_two}
 use Rattle.bmp_read.specs.declared.fault.BmpFault.{BmpFault}
 use Rattle.bmp_read.specs.declared.fault.BmpFault.TheVariants.{BadMagic, BadHeader, BadSize, Compressed, BadDepth, BadMasks, Truncated}
@@ -34,6 +34,15 @@ info_size_at text =
     else (if nat_lt (length text) (14 + u32_at 14 text) then Err Truncated
     else (if not (u16_at 26 text == 1) then Err BadHeader
     else Ok (u32_at 14 text)))))
+
+-- a side is from 1 to 2,147,483,647
+abbrev pub IsSide : ℕ → Type 0
+IsSide n = (1 ≤ n) × (n < 2 ^ 31)
+
+-- both sides are
+pub record HasSides (head : Head) : Type 0 where
+  pub wide : IsSide head.width
+  pub high : IsSide head.height
 
 -- The width, the height without its sign, and the order of the rows. Both are signed numbers of 32 bits in two's complement: below
 -- 2 to the 31st a number stands for itself, and from there on for 2 to the 32nd less. The width is above 0. The height is not 0

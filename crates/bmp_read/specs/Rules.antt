@@ -1,6 +1,6 @@
 -- The rules of Windows bitmaps in one list, each for itself and in the order in which they are tried. Which they are comes from the
 -- BMP headers of Windows; their names and their order are this project's own.
-use Rattle.std.specs.Prelude.{ℕ, ◌+◌, ◌-◌, ◌*◌, ◌/◌, ◌^◌, Bool, not, ◌&&◌, ◌||◌, ◌==◌, nat_le, nat_lt, List, [], ◌∷◌, length, if◌then◌else◌, Some, None}
+use Rattle.std.specs.Prelude.{ℕ, ◌+◌, ◌-◌, ◌*◌, ◌/◌, ◌^◌, Bool, not, ◌&&◌, ◌||◌, ◌==◌, nat_le, nat_lt, List, [], ◌∷◌, ◌++◌, length, if◌then◌else◌, Some, None}
 use Rattle.std.specs.declared.option.Option.{Option}
 use Rattle.bmp_read.specs.declared.fault.BmpFault.{BmpFault}
 use Rattle.bmp_read.specs.declared.fault.BmpFault.TheVariants.{BadMagic, BadHeader, BadSize, Compressed, BadDepth, BadMasks, Truncated}
@@ -20,9 +20,9 @@ unsigned n = if nat_lt n (2 ^ 31) then n else 2 ^ 32 - n
 abbrev pub raster_end : ℕ → ℕ → ℕ → ℕ → ℕ
 raster_end start width bits height = start + (width * bits + 31) / 32 * 4 * height
 
--- the list, from the fields at their places
-unfoldable pub rules : List ℕ → List Rule
-rules text =
+-- the rules of the headers, from the fields at their places
+unfoldable pub header_rules : List ℕ → List Rule
+header_rules text =
     let info_size = u32_at 14 text in
     let width = u32_at 18 text in
     let height = u32_at 22 text in
@@ -40,8 +40,17 @@ rules text =
     ∷ record { kept = not (compression == 3 && info_size == 40) || nat_le 66 (length text); fault = Truncated }
     ∷ record { kept = not (compression == 3) || are_masks bits (stored_masks info_size text); fault = BadMasks }
     ∷ record { kept = not (nat_le bits 8) || nat_le (14 + info_size + 4 * palette_count bits (u32_at 46 text)) (length text); fault = Truncated }
-    ∷ record { kept = nat_le (raster_end (u32_at 10 text) width bits (unsigned height)) (length text); fault = Truncated }
     ∷ []
+
+-- the raster's rule: it lies inside the text
+unfoldable pub raster_rule : List ℕ → Rule
+raster_rule text =
+    let end = raster_end (u32_at 10 text) (u32_at 18 text) (u16_at 28 text) (unsigned (u32_at 22 text)) in
+    record { kept = nat_le end (length text); fault = Truncated }
+
+-- all rules: those of the headers stand before the raster's
+abbrev pub rules : List ℕ → List Rule
+rules text = header_rules text ++ raster_rule text ∷ []
 
 -- the fault of the first rule that is broken, if one is
 abbrev pub first_broken : List Rule → Option BmpFault

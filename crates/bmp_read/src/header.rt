@@ -1,7 +1,7 @@
 // The headers: the file header and the info header, with the masks or the palette behind them.
 ghost use Rattle.std.specs.Prelude.{◌≡◌, ◌<◌, ◌≤◌, ◌+◌, ◌⊎◌, length, IfOk};
 ghost use Rattle.picture_rows.specs.FullPicture.{IsPictureSize};
-ghost use Rattle.bmp_read.specs.Header.{begins_bm, is_info_size, info_size_at, size_at, is_depth, depth_at, masks_at, palette_count, palette_at, indexed, masked, direct, format_of, head_of};
+ghost use Rattle.bmp_read.specs.Header.{begins_bm, is_info_size, info_size_at, IsSide, HasSides, size_at, is_depth, depth_at, masks_at, palette_count, palette_at, indexed, masked, direct, format_of, head_of};
 
 use crate::bytes::{u16_at, u32_at};
 use crate::fault::BmpFault;
@@ -77,7 +77,7 @@ fn info_size(text: &[u8]) -> Result<u32, BmpFault>
 fn size(text: &[u8]) -> Result<(u32, u32, RowOrder), BmpFault>
     requires { 54 ≤ length text.now }
     ensures read { result ≡ size_at text.now }
-    ensures sides { IfOk result (λ found. (1 ≤ found.0) × (1 ≤ found.1)) }
+    ensures sides { IfOk result (λ found. IsSide found.0 × IsSide found.1) }
 {
     let width = u32_at(text, 18);
     let height = u32_at(text, 22);
@@ -230,6 +230,7 @@ fn format(text: &[u8], info_size: u32, compression: u32, bits: u16) -> Result<Fo
 pub fn read_head(bytes: &[u8]) -> Result<Head, BmpFault>
     ensures head { result ≡ head_of bytes.now }
     ensures size { IfOk result (λ head. IsPictureSize head.width head.height) }
+    ensures sides { IfOk result HasSides }
 {
     let info_size = info_size(bytes)?;
     let (width, height, order) = size(bytes)?;

@@ -1,6 +1,6 @@
 // The rows of the raster, from the top.
 ghost use Rattle.std.specs.Prelude.{◌≡◌, ◌≤◌, ◌<◌, ◌-◌, ◌+◌, ◌*◌, false, length, Ok, IsTrue};
-ghost use Rattle.bmp_read.specs.Header.{head_of};
+ghost use Rattle.bmp_read.specs.Header.{HasSides, head_of};
 ghost use Rattle.bmp_read.specs.Pixel.{bits_of, pixel_at, HasPalette};
 ghost use Rattle.picture_rows.specs.RowsLeft.{RowStep, HasRows};
 ghost use Rattle.bmp_read.specs.Raster.{row_length, has_raster, stored_row, stored_index, pixels, row_at};
@@ -25,6 +25,7 @@ pub struct Rows<'a> {
 
 impl<'a> Model for Rows<'a> {
     ghost use Rattle.std.specs.Prelude.{◌≤◌};
+    ghost use Rattle.bmp_read.specs.Header.{HasSides};
     ghost use Rattle.bmp_read.specs.Pixel.{HasPalette};
     ghost use Rattle.picture_rows.specs.RowsLeft.{RowsLeft};
     ghost use Rattle.bmp_read.specs.declared.fault.BmpFault.{BmpFault};
@@ -34,7 +35,7 @@ impl<'a> Model for Rows<'a> {
 
     ghost view = { λ s. rows_of s.head s.height_left s.text.now };
 
-    ghost invariant = { λ s. HasPalette s.head.format s.text.now × (s.height_left ≤ s.head.height) };
+    ghost invariant = { λ s. HasPalette s.head.format s.text.now × HasSides s.head × (s.height_left ≤ s.head.height) };
 }
 
 // How many bits a pixel has.
@@ -61,16 +62,11 @@ fn row_length(head: Head) -> u64
 
 // Whether the raster lies inside the text.
 fn has_raster(text: &[u8], head: Head) -> bool
+    requires { HasSides head }
     ensures { result ≡ has_raster head text.now }
 {
-    // What 64 bits do not hold is longer than any text.
-    let Some(length) = row_length(head).checked_mul(u64::from(head.height)) else {
-        return false;
-    };
-    let Some(end) = length.checked_add(u64::from(head.raster_start)) else {
-        return false;
-    };
-    end <= text.len() as u64
+    let length = row_length(head) * u64::from(head.height);
+    u64::from(head.raster_start) + length <= text.len() as u64
 }
 
 // Where in the file the row stands that has so many rows above it.

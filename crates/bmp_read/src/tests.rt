@@ -87,6 +87,14 @@ fn worked_texts()
         ≡ Ok record { width = 3; height = 1; pixels = 0 ∷ 0 ∷ 0 ∷ 97 ∷ 0 ∷ 0 ∷ 0 ∷ 98 ∷ 0 ∷ 0 ∷ 0 ∷ 99 ∷ [] } }
     ensures short { full_picture (codes "BM" ++ flat_map (to_le_bytes w32)
         (62 ∷ 0 ∷ 54 ∷ 40 ∷ 1 ∷ 2 ∷ 0x0018_0001 ∷ 0 ∷ 0 ∷ 0 ∷ 0 ∷ 0 ∷ 0 ∷ 0x0003_0201 ∷ [])) ≡ Err BmpFault.Truncated }
+    ensures product_past_32_bits { full_picture (codes "BM" ++ flat_map (to_le_bytes w32)
+        (54 ∷ 0 ∷ 54 ∷ 40 ∷ 65536 ∷ 16384 ∷ 0x0020_0001 ∷ 0 ∷ 0 ∷ 0 ∷ 0 ∷ 0 ∷ 0 ∷ [])) ≡ Err BmpFault.Truncated }
+    ensures longest_sides { full_picture (codes "BM" ++ flat_map (to_le_bytes w32)
+        (54 ∷ 0 ∷ 54 ∷ 40 ∷ 0x7fff_ffff ∷ 0x8000_0001 ∷ 0x0020_0001 ∷ 0 ∷ 0 ∷ 0 ∷ 0 ∷ 0 ∷ 0 ∷ [])) ≡ Err BmpFault.Truncated }
+    ensures too_wide { full_picture (codes "BM" ++ flat_map (to_le_bytes w32)
+        (54 ∷ 0 ∷ 54 ∷ 40 ∷ 0x8000_0000 ∷ 1 ∷ 0x0020_0001 ∷ 0 ∷ 0 ∷ 0 ∷ 0 ∷ 0 ∷ 0 ∷ [])) ≡ Err BmpFault.BadSize }
+    ensures too_high { full_picture (codes "BM" ++ flat_map (to_le_bytes w32)
+        (54 ∷ 0 ∷ 54 ∷ 40 ∷ 1 ∷ 0x8000_0000 ∷ 0x0020_0001 ∷ 0 ∷ 0 ∷ 0 ∷ 0 ∷ 0 ∷ 0 ∷ [])) ≡ Err BmpFault.BadSize }
     ensures compressed { full_picture (codes "BM" ++ flat_map (to_le_bytes w32)
         (62 ∷ 0 ∷ 62 ∷ 40 ∷ 3 ∷ 1 ∷ 0x0008_0001 ∷ 1 ∷ 0 ∷ 0 ∷ 0 ∷ 2 ∷ 0 ∷ 0x000c_0b0a ∷ 0x000f_0e0d ∷ [])) ≡ Err (BmpFault.Compressed 1) }
 {}

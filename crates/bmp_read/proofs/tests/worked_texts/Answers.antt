@@ -23,3 +23,19 @@ returns-clause-short c = refl
 pub returns-clause-compressed : goal.returns-clause-compressed
 unfolding info_size_at size_at depth_at masks_at palette_at format_of head_of row_at
 returns-clause-compressed c = refl
+
+pub returns-clause-product_past_32_bits : goal.returns-clause-product_past_32_bits
+unfolding info_size_at size_at depth_at masks_at palette_at format_of head_of row_at
+returns-clause-product_past_32_bits c = refl
+
+pub returns-clause-longest_sides : goal.returns-clause-longest_sides
+unfolding info_size_at size_at depth_at masks_at palette_at format_of head_of row_at
+returns-clause-longest_sides c = refl
+
+pub returns-clause-too_wide : goal.returns-clause-too_wide
+unfolding info_size_at size_at depth_at masks_at palette_at format_of head_of row_at
+returns-clause-too_wide c = refl
+
+pub returns-clause-too_high : goal.returns-clause-too_high
+unfolding info_size_at size_at depth_at masks_at palette_at format_of head_of row_at
+returns-clause-too_high c = refl
