@@ -85,7 +85,7 @@ info_fault text =
     (next (not planes) planes BadHeader (Ok size) None refl refl))))
 
 -- the size that is read is the first field of the info header
-info_is : (text : List ℕ) (size : ℕ) → info_size_at text ≡ Ok size → u32_at 14 text ≡ size
+pub info_is : (text : List ℕ) (size : ℕ) → info_size_at text ≡ Ok size → u32_at 14 text ≡ size
 unfolding info_size_at
 info_is text size e =
     let stored : ℕ = u32_at 14 text in
@@ -132,7 +132,7 @@ by_sign_is : (width height : ℕ) (above : Bool) (found : ℕ × ℕ × RowOrder
 by_sign_is width height true found e = (cc, cc)
 by_sign_is width height false found e = (cc, cc)
 
-size_is : (text : List ℕ) (found : ℕ × ℕ × RowOrder) → size_at text ≡ Ok found → (u32_at 18 text ≡ found.0) × (unsigned (u32_at 22 text) ≡ found.1)
+pub size_is : (text : List ℕ) (found : ℕ × ℕ × RowOrder) → size_at text ≡ Ok found → (u32_at 18 text ≡ found.0) × (unsigned (u32_at 22 text) ≡ found.1)
 unfolding size_at
 size_is text found e =
     let width : ℕ = u32_at 18 text in
@@ -160,7 +160,7 @@ kept_is : {A : Type 0} (kept : Bool) (x y : A) (d : BmpFault) → cond kept (Ok 
 kept_is true x y d e = (refl, cc)
 kept_is false x y d e = cc
 
-depth_is : (text : List ℕ) (found : ℕ × ℕ) → depth_at text ≡ Ok found → (is_depth (u32_at 30 text) (u16_at 28 text) ≡ true) × ((u32_at 30 text, u16_at 28 text) ≡ found)
+pub depth_is : (text : List ℕ) (found : ℕ × ℕ) → depth_at text ≡ Ok found → (is_depth (u32_at 30 text) (u16_at 28 text) ≡ true) × ((u32_at 30 text, u16_at 28 text) ≡ found)
 unfolding depth_at
 depth_is text found e =
     let compression : ℕ = u32_at 30 text in
@@ -233,13 +233,13 @@ indexed_bits bits palette true b e f h = grind (arith, nat_tests)
 indexed_bits bits palette false true e f h = grind (arith, nat_tests)
 indexed_bits bits palette false false e f h = sym (h refl refl)
 
-masked_depth : (compression bits : ℕ) → is_depth compression bits ≡ true → eqb compression 3 ≡ true → eqb bits 16 ≡ false → bits ≡ 32
+pub masked_depth : (compression bits : ℕ) → is_depth compression bits ≡ true → eqb compression 3 ≡ true → eqb bits 16 ≡ false → bits ≡ 32
 masked_depth compression bits depth e f = grind (arith, nat_tests)
 
-direct_depth : (compression bits : ℕ) → is_depth compression bits ≡ true → leb bits 8 ≡ false → eqb bits 16 ≡ false → eqb bits 24 ≡ false → bits ≡ 32
+pub direct_depth : (compression bits : ℕ) → is_depth compression bits ≡ true → leb bits 8 ≡ false → eqb bits 16 ≡ false → eqb bits 24 ≡ false → bits ≡ 32
 direct_depth compression bits depth e f g = grind (arith, nat_tests)
 
-indexed_depth : (compression bits : ℕ) → is_depth compression bits ≡ true → leb bits 8 ≡ true → eqb bits 1 ≡ false → eqb bits 4 ≡ false → bits ≡ 8
+pub indexed_depth : (compression bits : ℕ) → is_depth compression bits ≡ true → leb bits 8 ≡ true → eqb bits 1 ≡ false → eqb bits 4 ≡ false → bits ≡ 8
 indexed_depth compression bits depth e f g = grind (arith, nat_tests)
 
 kind_bits : (info_size compression bits : ℕ) (text : List ℕ) (with_masks small : Bool) (format : Format) → is_depth compression bits ≡ true → eqb compression 3 ≡ with_masks → leb bits 8 ≡ small
@@ -257,7 +257,7 @@ kind_bits info_size compression bits text false false format depth e f read =
     let is : direct bits ≡ format = cc in
     sym (ap bits_of is) ∙ direct_bits bits (eqb bits 16) (eqb bits 24) refl refl (direct_depth compression bits depth f)
 
-format_bits : (info_size compression bits : ℕ) (text : List ℕ) (format : Format) → is_depth compression bits ≡ true → format_of info_size compression bits text ≡ Ok format → bits_of format ≡ bits
+pub format_bits : (info_size compression bits : ℕ) (text : List ℕ) (format : Format) → is_depth compression bits ≡ true → format_of info_size compression bits text ≡ Ok format → bits_of format ≡ bits
 unfolding format_of
 format_bits info_size compression bits text format depth read = kind_bits info_size compression bits text (eqb compression 3) (leb bits 8) format depth refl refl read
 
@@ -282,16 +282,16 @@ raster_is text head width bits height w b h start =
     λ i. leb (start i + (sym w i * b i + 31) / 32 * 4 * sym h i) (length text)
 
 -- the steps of the headers
-abbrev with_format : List ℕ → ℕ × ℕ × RowOrder → Format → Result Head BmpFault
+abbrev pub with_format : List ℕ → ℕ × ℕ × RowOrder → Format → Result Head BmpFault
 with_format text size format = Ok record { width = size.0; height = size.1; order = size.2; format = format; raster_start = u32_at 10 text }
 
-abbrev with_depth : List ℕ → ℕ → ℕ × ℕ × RowOrder → ℕ × ℕ → Result Head BmpFault
+abbrev pub with_depth : List ℕ → ℕ → ℕ × ℕ × RowOrder → ℕ × ℕ → Result Head BmpFault
 with_depth text info_size size depth = format_of info_size depth.0 depth.1 text >>= with_format text size
 
-abbrev with_size : List ℕ → ℕ → ℕ × ℕ × RowOrder → Result Head BmpFault
+abbrev pub with_size : List ℕ → ℕ → ℕ × ℕ × RowOrder → Result Head BmpFault
 with_size text info_size size = depth_at text >>= with_depth text info_size size
 
-abbrev with_info : List ℕ → ℕ → Result Head BmpFault
+abbrev pub with_info : List ℕ → ℕ → Result Head BmpFault
 with_info text info_size = size_at text >>= with_size text info_size
 
 head_fault : (text : List ℕ) → fault_of (head_of text) ≡ first_broken (info_rules text ++ (size_rules text ++ (depth_rules text ++ (format_rules text ++ []))))

@@ -9,7 +9,7 @@ use Rattle.bmp_read.specs.Pixel.{pixel_at}
 use Rattle.picture_rows.specs.RowsLeft.{RowsLeft, with_row, HasRows}
 use Rattle.bmp_read.specs.Raster.{row_length, has_raster, stored_row, stored_index, pixels, row_at, last_rows, rows_of}
 
-length-last_rows : (head : Head) (text : List ℕ) (n : ℕ) → length (last_rows head text n) ≡ n
+pub length-last_rows : (head : Head) (text : List ℕ) (n : ℕ) → length (last_rows head text n) ≡ n
 length-last_rows head text zero = refl
 length-last_rows head text (suc n) = ap suc (length-last_rows head text n)
 
@@ -24,7 +24,7 @@ row_inside head text size index is e lt =
     omega (arith, mul-le-mul_left size lt, same, all)
 
 -- the rows, by whether the raster lies inside the text
-abbrev by_raster : Head → ℕ → List ℕ → Bool → RowsLeft BmpFault
+abbrev pub by_raster : Head → ℕ → List ℕ → Bool → RowsLeft BmpFault
 by_raster head count text inside = cond inside record { width = head.width; rows = last_rows head text count; fault = None } record { width = head.width; rows = []; fault = Some Truncated }
 
 count_by : (head : Head) (text : List ℕ) (b : Bool) → 1 ≤ head.height → HasRows head.height (by_raster head head.height text b)

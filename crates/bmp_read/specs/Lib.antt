@@ -8,4 +8,5 @@ pub mod Pixel
 pub mod Raster
 pub mod Full
 pub mod Rules
+pub mod Table
 pub mod inside

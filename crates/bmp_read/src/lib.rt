@@ -17,7 +17,7 @@ mod rules;
 pub use fault::BmpFault;
 pub use header::{Head, read_head};
 pub use rows::Rows;
-pub use rules::fault_is_the_first_broken_rule;
+pub use rules::{fault_is_the_first_broken_rule, pixels_are_those_of_the_table};
 
 #[cfg(test)]
 mod tests;

@@ -1,5 +1,5 @@
 -- The full picture of a text: this project's own way to hold what a format says of pixels.
-use Rattle.std.specs.Prelude.{ℕ, ◌≤◌, List, Result}
+use Rattle.std.specs.Prelude.{ℕ, ◌*◌, ◌≤◌, List, take, drop, Result}
 use Rattle.std.specs.List.{concat}
 use Rattle.picture_rows.specs.Reading.{unless_fault}
 use Rattle.picture_rows.specs.RowsLeft.{RowsLeft}
@@ -9,6 +9,10 @@ pub record FullPicture : Type 0 where
   pub width : ℕ
   pub height : ℕ
   pub pixels : List ℕ
+
+-- the four bytes of the pixel in this column of this row, both counted from 0
+abbrev pub pixel_of : FullPicture → ℕ → ℕ → List ℕ
+pixel_of picture x y = take 4 (drop (4 * x) (take (4 * picture.width) (drop (4 * picture.width * y) picture.pixels)))
 
 -- the full picture of this width and height that all these rows make, one after the other, or their fault
 abbrev pub full_of : {F : Type 0} → ℕ × ℕ → RowsLeft F → Result FullPicture F
