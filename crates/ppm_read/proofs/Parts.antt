@@ -9,7 +9,7 @@ use Rattle.std.specs.Str.Parse.{digits_value}
 use Rattle.ppm_read.specs.declared.fault.PpmFault.{PpmFault}
 use Rattle.ppm_read.specs.declared.fault.PpmFault.TheVariants.{BadNumber, Truncated}
 use Rattle.picture_rows.specs.Reading.{◌>>=◌}
-use Rattle.ppm_read.specs.Number.{is_white, is_line_end, begins_comment, is_digit, behind, behind_gap, behind_comment, missing_at, begins_with, is_cut, number_at}
+use Rattle.ppm_read.specs.Number.{is_white, is_line_end, begins_comment, is_digit, rest_after, after_gap, after_comment, missing_at, begins_with, is_cut, number_at}
 use Rattle.ppm_read.specs.Header.{part_at}
 use Rattle.ppm_read.specs.Spelling.{GapPart, White, Comment, gap_bytes, is_gap_part, IsGap}
 use Rattle.ppm_read.specs.Breaking.{goes_on, AreDigits, IsOpenEnd, IsOpenGap, PartBreaks, ends_in_gap, ends_in_number, no_gap, no_number, too_large}
@@ -17,27 +17,27 @@ use Rattle.ppm_read.proofs.Gaps.{begins_gap, and_both, both_true, gap_behind, ga
 
 -- behind a gap no gap begins
 abbrev NoGap : List ℕ → Type 0
-NoGap text = (begins_with begins_gap (behind_gap text) ≡ false) × (begins_with begins_gap (behind_comment text) ≡ false)
+NoGap text = (begins_with begins_gap (after_gap text) ≡ false) × (begins_with begins_gap (after_comment text) ≡ false)
 
-after_gap : (c : ℕ) (rest : List ℕ) (w h : Bool) → is_white c ≡ w → begins_comment c ≡ h → NoGap rest → begins_with begins_gap (behind_gap (c ∷ rest)) ≡ false
-after_gap c rest true h e f more = ap (begins_with begins_gap) (gap_white c rest e) ∙ more.0
-after_gap c rest false true e f more = ap (begins_with begins_gap) (gap_comment c rest e f) ∙ more.1
-after_gap c rest false false e f more = ap (begins_with begins_gap) (gap_none c rest e f) ∙ (λ i. e i || f i)
+gap_next : (c : ℕ) (rest : List ℕ) (w h : Bool) → is_white c ≡ w → begins_comment c ≡ h → NoGap rest → begins_with begins_gap (after_gap (c ∷ rest)) ≡ false
+gap_next c rest true h e f more = ap (begins_with begins_gap) (gap_white c rest e) ∙ more.0
+gap_next c rest false true e f more = ap (begins_with begins_gap) (gap_comment c rest e f) ∙ more.1
+gap_next c rest false false e f more = ap (begins_with begins_gap) (gap_none c rest e f) ∙ (λ i. e i || f i)
 
-after_comment : (c : ℕ) (rest : List ℕ) (s : Bool) → is_line_end c ≡ s → NoGap rest → begins_with begins_gap (behind_comment (c ∷ rest)) ≡ false
-after_comment c rest true e more = ap (begins_with begins_gap) (comment_stops c rest e) ∙ more.0
-after_comment c rest false e more = ap (begins_with begins_gap) (comment_goes c rest e) ∙ more.1
+comment_next : (c : ℕ) (rest : List ℕ) (s : Bool) → is_line_end c ≡ s → NoGap rest → begins_with begins_gap (after_comment (c ∷ rest)) ≡ false
+comment_next c rest true e more = ap (begins_with begins_gap) (comment_stops c rest e) ∙ more.0
+comment_next c rest false e more = ap (begins_with begins_gap) (comment_goes c rest e) ∙ more.1
 
 none_behind : (text : List ℕ) → NoGap text
 none_behind [] = (refl, refl)
-none_behind (c ∷ rest) = (after_gap c rest (is_white c) (begins_comment c) refl refl (none_behind rest), after_comment c rest (is_line_end c) refl (none_behind rest))
+none_behind (c ∷ rest) = (gap_next c rest (is_white c) (begins_comment c) refl refl (none_behind rest), comment_next c rest (is_line_end c) refl (none_behind rest))
 
 -- a text that ends within a gap
 record OpenComment (text : List ℕ) : Type 0 where
   comment : (list_all (λ c. not (is_line_end c)) text ≡ true) ⊎ ((bytes : List ℕ) × (end : ℕ) × (rest : List ℕ) × (list_all (λ c. not (is_line_end c)) bytes ≡ true) × (is_line_end end ≡ true) × IsOpenGap rest × (text ≡ bytes ++ end ∷ rest))
 
 abbrev Opens : List ℕ → Type 0
-Opens text = (behind_gap text ≡ [] → IsOpenGap text) × (behind_comment text ≡ [] → OpenComment text)
+Opens text = (after_gap text ≡ [] → IsOpenGap text) × (after_comment text ≡ [] → OpenComment text)
 
 add_comment : (rest : List ℕ) → OpenComment rest → IsOpenGap (35 ∷ rest)
 add_comment rest opened = by opened.comment where
@@ -51,14 +51,14 @@ add_comment rest opened = by opened.comment where
     spelled = ap (λ l. 35 ∷ l) (spelled ∙ ap (λ l. bytes ++ end ∷ l) more.spelled ∙ sym (append_assoc (bytes ++ end ∷ []) (flat_map gap_bytes more.parts) more.end ∙ append_assoc bytes (end ∷ []) (flat_map gap_bytes more.parts ++ more.end)));
   }
 
-open_gap : (c : ℕ) (rest : List ℕ) (w h : Bool) → is_white c ≡ w → begins_comment c ≡ h → Opens rest → behind_gap (c ∷ rest) ≡ [] → IsOpenGap (c ∷ rest)
+open_gap : (c : ℕ) (rest : List ℕ) (w h : Bool) → is_white c ≡ w → begins_comment c ≡ h → Opens rest → after_gap (c ∷ rest) ≡ [] → IsOpenGap (c ∷ rest)
 open_gap c rest true h e f opens none =
     let more = opens.0 (sym (gap_white c rest e) ∙ none) in
     record { parts = White c ∷ more.parts; end = more.end; fit = both_true (is_white c) _ e more.fit; opened = more.opened; spelled = ap (λ l. c ∷ l) more.spelled }
 open_gap c rest false true e f opens none = subst (λ v. IsOpenGap (v ∷ rest)) (sym (hash c f)) (add_comment rest (opens.1 (sym (gap_comment c rest e f) ∙ none)))
 open_gap c rest false false e f opens none = let same : c ∷ rest ≡ [] = sym (gap_none c rest e f) ∙ none in cc
 
-open_comment : (c : ℕ) (rest : List ℕ) (s : Bool) → is_line_end c ≡ s → Opens rest → behind_comment (c ∷ rest) ≡ [] → OpenComment (c ∷ rest)
+open_comment : (c : ℕ) (rest : List ℕ) (s : Bool) → is_line_end c ≡ s → Opens rest → after_comment (c ∷ rest) ≡ [] → OpenComment (c ∷ rest)
 open_comment c rest true e opens none = record { comment = inr ([], c, rest, refl, e, opens.0 (sym (comment_stops c rest e) ∙ none), refl) }
 open_comment c rest false e opens none = add (opens.1 (sym (comment_goes c rest e) ∙ none)).comment where
   add : (list_all (λ c. not (is_line_end c)) rest ≡ true) ⊎ ((bytes : List ℕ) × (end : ℕ) × (back : List ℕ) × (list_all (λ c. not (is_line_end c)) bytes ≡ true) × (is_line_end end ≡ true) × IsOpenGap back × (rest ≡ bytes ++ end ∷ back)) → OpenComment (c ∷ rest)
@@ -70,26 +70,26 @@ opens_of [] = (λ e. record { parts = []; end = []; fit = refl; opened = inl ref
 opens_of (c ∷ rest) = (open_gap c rest (is_white c) (begins_comment c) refl refl (opens_of rest), open_comment c rest (is_line_end c) refl (opens_of rest))
 
 -- and the other way round
-comment_open : (bytes : List ℕ) → list_all (λ c. not (is_line_end c)) bytes ≡ true → behind_comment bytes ≡ []
+comment_open : (bytes : List ℕ) → list_all (λ c. not (is_line_end c)) bytes ≡ true → after_comment bytes ≡ []
 comment_open [] e = refl
 comment_open (c ∷ bytes) e = let both = and_both (not (is_line_end c)) _ e in comment_goes c bytes (not_true (is_line_end c) both.0) ∙ comment_open bytes both.1
 
-end_behind : (end : List ℕ) → IsOpenEnd end → behind_gap end ≡ []
-end_behind end (inl e) = ap behind_gap e
-end_behind end (inr (bytes, e, fit)) = ap behind_gap e ∙ comment_open bytes fit
+end_behind : (end : List ℕ) → IsOpenEnd end → after_gap end ≡ []
+end_behind end (inl e) = ap after_gap e
+end_behind end (inr (bytes, e, fit)) = ap after_gap e ∙ comment_open bytes fit
 
-parts_behind : (parts : List GapPart) (end : List ℕ) → list_all is_gap_part parts ≡ true → behind_gap (flat_map gap_bytes parts ++ end) ≡ behind_gap end
+parts_behind : (parts : List GapPart) (end : List ℕ) → list_all is_gap_part parts ≡ true → after_gap (flat_map gap_bytes parts ++ end) ≡ after_gap end
 parts_behind [] end e = refl
 parts_behind (White c ∷ parts) end e = let both = and_both (is_white c) _ e in gap_white c (flat_map gap_bytes parts ++ end) both.0 ∙ parts_behind parts end both.1
 parts_behind (Comment bytes stop ∷ parts) end e =
     let both = and_both _ (list_all is_gap_part parts) e in
     let inner = and_both (list_all (λ c. not (is_line_end c)) bytes) (is_line_end stop) both.0 in
-    ap behind_comment (append_assoc (bytes ++ stop ∷ []) (flat_map gap_bytes parts) end ∙ append_assoc bytes (stop ∷ []) (flat_map gap_bytes parts ++ end))
+    ap after_comment (append_assoc (bytes ++ stop ∷ []) (flat_map gap_bytes parts) end ∙ append_assoc bytes (stop ∷ []) (flat_map gap_bytes parts ++ end))
     ∙ comment_behind bytes stop (flat_map gap_bytes parts ++ end) inner.0 inner.1
     ∙ parts_behind parts end both.1
 
-open_behind : (text : List ℕ) → IsOpenGap text → behind_gap text ≡ []
-open_behind text opened = ap behind_gap opened.spelled ∙ parts_behind opened.parts opened.end opened.fit ∙ end_behind opened.end opened.opened
+open_behind : (text : List ℕ) → IsOpenGap text → after_gap text ≡ []
+open_behind text opened = ap after_gap opened.spelled ∙ parts_behind opened.parts opened.end opened.fit ∙ end_behind opened.end opened.opened
 
 -- numbers that are none
 pub number_none : (may_end : Bool) (text : List ℕ) → begins_with is_digit text ≡ false → number_at may_end text ≡ Err (missing_at text)
@@ -153,7 +153,7 @@ digits_by : (may_end : Bool) (text : List ℕ) (f : PpmFault) (b : Bool) → eqb
 digits_by may_end text f true e read = let none = no_digits text e in subst (NumberBreaks may_end text) (err_inside (missing_at text) f (sym (number_none may_end text none) ∙ read)) (is_none none)
 digits_by may_end text f false e read =
     let digits : List ℕ = take_while is_digit text in
-    let rest : List ℕ = behind is_digit text in
+    let rest : List ℕ = rest_after is_digit text in
     let are : AreDigits digits = record { some = positive (length digits) e; fit = front_passes is_digit text } in
     let spelled : text ≡ digits ++ rest = sym (take-append-drop (prefix_len is_digit text) text) in
     let stops = behind_stops is_digit text in
@@ -177,14 +177,14 @@ record GapOf (text behind : List ℕ) : Type 0 where
   is_gap : IsGap gap
   spelled : text ≡ gap ++ behind
 
-gap_of : (text behind : List ℕ) → behind_gap text ≡ behind → 0 < length behind → begins_with begins_gap text ≡ true → begins_with begins_gap behind ≡ false → GapOf text behind
+gap_of : (text behind : List ℕ) → after_gap text ≡ behind → 0 < length behind → begins_with begins_gap text ≡ true → begins_with begins_gap behind ≡ false → GapOf text behind
 gap_of text behind e some first none =
     let front = (fronts_of text).0 (subst (λ l. 0 < length l) (sym e) some) in
     let spelled : text ≡ flat_map gap_bytes front.parts ++ behind = front.spelled ∙ ap (λ l. flat_map gap_bytes front.parts ++ l) e in
     record { gap = flat_map gap_bytes front.parts; is_gap = record { parts = front.parts; some = some_parts front.parts text behind spelled first none; fit = front.fit; spelled = refl }; spelled = spelled }
 
 -- a number behind a gap
-after_gap_by : (text behind : List ℕ) (f : PpmFault) → behind_gap text ≡ behind → begins_with begins_gap text ≡ true → NumberBreaks false behind f → PartBreaks text f
+after_gap_by : (text behind : List ℕ) (f : PpmFault) → after_gap text ≡ behind → begins_with begins_gap text ≡ true → NumberBreaks false behind f → PartBreaks text f
 after_gap_by text [] f e first (is_none none) = ends_in_gap ((opens_of text).0 e)
 after_gap_by text (c ∷ back) f e first (is_none none) =
     let not_gap = sym (ap (begins_with begins_gap) e) ∙ (none_behind text).0 in
@@ -204,12 +204,12 @@ after_gap_by text behind f e first (is_large digits rest are spelled stops whole
 
 gap_by : (text : List ℕ) (f : PpmFault) (b : Bool) → begins_with begins_gap text ≡ b → part_at text ≡ Err f → PartBreaks text f
 gap_by text f true first e =
-    let read : number_at false (behind_gap text) ≡ Err f = sym (ap (λ b. cond b (Ok (behind_gap text)) (Err (missing_at text)) >>= number_at false) first) ∙ e in
-    after_gap_by text (behind_gap text) f refl first (number_err false (behind_gap text) f read)
+    let read : number_at false (after_gap text) ≡ Err f = sym (ap (λ b. cond b (Ok (after_gap text)) (Err (missing_at text)) >>= number_at false) first) ∙ e in
+    after_gap_by text (after_gap text) f refl first (number_err false (after_gap text) f read)
 gap_by [] f false first e = subst (PartBreaks []) (err_inside Truncated f e) (ends_in_gap record { parts = []; end = []; fit = refl; opened = inl refl; spelled = refl })
 gap_by (c ∷ rest) f false first e =
     let parts = or_false (is_white c) (begins_comment c) first in
-    let read : ◌≡◌ {A = Result (ℕ × List ℕ) PpmFault} (Err BadNumber) (Err f) = sym (ap (λ b. cond b (Ok (behind_gap (c ∷ rest))) (Err (missing_at (c ∷ rest))) >>= number_at false) first) ∙ e in
+    let read : ◌≡◌ {A = Result (ℕ × List ℕ) PpmFault} (Err BadNumber) (Err f) = sym (ap (λ b. cond b (Ok (after_gap (c ∷ rest))) (Err (missing_at (c ∷ rest))) >>= number_at false) first) ∙ e in
     subst (PartBreaks (c ∷ rest)) (err_inside BadNumber f read) (no_gap c rest parts.0 parts.1 refl)
 
 -- what is wrong with a part
@@ -217,8 +217,8 @@ pub part_err : (text : List ℕ) (f : PpmFault) → part_at text ≡ Err f → P
 part_err text f e = gap_by text f (begins_with begins_gap text) refl e
 
 -- and so it is read
-open_by : (text : List ℕ) (b : Bool) → begins_with begins_gap text ≡ b → behind_gap text ≡ [] → part_at text ≡ Err Truncated
-open_by text true first e = ap (λ b. cond b (Ok (behind_gap text)) (Err (missing_at text)) >>= number_at false) first ∙ ap (number_at false) e ∙ number_none false [] refl
+open_by : (text : List ℕ) (b : Bool) → begins_with begins_gap text ≡ b → after_gap text ≡ [] → part_at text ≡ Err Truncated
+open_by text true first e = ap (λ b. cond b (Ok (after_gap text)) (Err (missing_at text)) >>= number_at false) first ∙ ap (number_at false) e ∙ number_none false [] refl
 open_by [] false first e = refl
 open_by (c ∷ rest) false first e =
     let parts = or_false (is_white c) (begins_comment c) first in
@@ -228,14 +228,14 @@ behind_part : (text gap back : List ℕ) → IsGap gap → begins_with begins_ga
 behind_part text gap back is none spelled =
     let text_is : text ≡ flat_map gap_bytes is.parts ++ back = spelled ∙ ap (λ l. l ++ back) is.spelled in
     ap part_at text_is
-    ∙ ap (λ b. cond b (Ok (behind_gap (flat_map gap_bytes is.parts ++ back))) (Err (missing_at (flat_map gap_bytes is.parts ++ back))) >>= number_at false) (gap_first is.parts back is.some is.fit)
+    ∙ ap (λ b. cond b (Ok (after_gap (flat_map gap_bytes is.parts ++ back))) (Err (missing_at (flat_map gap_bytes is.parts ++ back))) >>= number_at false) (gap_first is.parts back is.some is.fit)
     ∙ ap (number_at false) (gap_behind is.parts back is.fit none)
 
 pub part_breaks : (text : List ℕ) (f : PpmFault) → PartBreaks text f → part_at text ≡ Err f
 part_breaks text f (ends_in_gap opened) = open_by text (begins_with begins_gap text) refl (open_behind text opened)
 part_breaks text f (ends_in_number gap digits is are spelled) =
     behind_part text gap digits is (ap (begins_with begins_gap) (sym (append-nil digits)) ∙ digit_first digits [] are.some are.fit) spelled ∙ number_cut digits are
-part_breaks text f (no_gap c rest w h spelled) = ap part_at spelled ∙ ap (λ b. cond b (Ok (behind_gap (c ∷ rest))) (Err (missing_at (c ∷ rest))) >>= number_at false) (λ i. w i || h i)
+part_breaks text f (no_gap c rest w h spelled) = ap part_at spelled ∙ ap (λ b. cond b (Ok (after_gap (c ∷ rest))) (Err (missing_at (c ∷ rest))) >>= number_at false) (λ i. w i || h i)
 part_breaks text f (no_number gap c rest is w h d spelled) = behind_part text gap (c ∷ rest) is (λ i. w i || h i) spelled ∙ number_none false (c ∷ rest) d
 part_breaks text f (too_large gap digits rest is are large goes spelled) =
     let stops = goes_stops rest goes in

@@ -12,7 +12,7 @@ use Rattle.ppm_read.specs.declared.header.Head.{Head}
 use Rattle.picture_rows.specs.Reading.{◌>>=◌}
 use Rattle.picture_rows.specs.PixelBytes.{scaled}
 use Rattle.ppm_read.specs.Raster.{sample_at, samples_at, channel_count, rgba, pixels_at}
-use Rattle.ppm_read.specs.Plain.{grey_pixel_at, colour_pixel_at}
+use Rattle.ppm_read.specs.inside.Plain.{grey_pixel_at, colour_pixel_at}
 use Rattle.ppm_read.proofs.Chains.{bind_ok, bind_assoc, bind_same}
 use Rattle.ppm_read.proofs.Pixels.{rgba-append}
 

@@ -12,7 +12,7 @@ use Rattle.ppm_read.specs.declared.header.Format.{Format}
 use Rattle.ppm_read.specs.declared.header.Format.TheVariants.{Plain, Raw}
 use Rattle.ppm_read.specs.declared.header.Head.{Head}
 use Rattle.picture_rows.specs.Reading.{◌>>=◌}
-use Rattle.ppm_read.specs.Number.{is_white, behind, missing_at, begins_with, number_at}
+use Rattle.ppm_read.specs.Number.{is_white, rest_after, missing_at, begins_with, number_at}
 use Rattle.picture_rows.specs.PixelBytes.{scaled}
 use Rattle.picture_rows.specs.RowsLeft.{RowsLeft}
 use Rattle.ppm_read.specs.Raster.{byte_at, word_at, plain_at, spelled_at, at_most, sample_at, samples_at, rgba, pixels_at, row_then, rows_of}
@@ -58,11 +58,11 @@ number_by m last text white back f are spelled stops (is_large digits rest some 
 
 plain_by : (m : ℕ) (last : Bool) (text : List ℕ) (f : PpmFault) (b : Bool) → begins_with is_white text ≡ b → plain_at last text ≡ Err f → SampleBreaks m last text Plain f
 plain_by m last text f true first e =
-    let read : number_at last (behind is_white text) ≡ Err f = sym (ap (λ b. cond b (number_at last (behind is_white text)) (Err (missing_at text))) first) ∙ e in
-    number_by m last text (take_while is_white text) (behind is_white text) f record { some = white_some is_white text first; fit = front_passes is_white text } (sym (take-append-drop (prefix_len is_white text) text)) (behind_stops is_white text) (number_err last (behind is_white text) f read)
+    let read : number_at last (rest_after is_white text) ≡ Err f = sym (ap (λ b. cond b (number_at last (rest_after is_white text)) (Err (missing_at text))) first) ∙ e in
+    number_by m last text (take_while is_white text) (rest_after is_white text) f record { some = white_some is_white text first; fit = front_passes is_white text } (sym (take-append-drop (prefix_len is_white text) text)) (behind_stops is_white text) (number_err last (rest_after is_white text) f read)
 plain_by m last [] f false first e = subst (SampleBreaks m last [] Plain) (err_inside Truncated f e) (white_ends refl)
 plain_by m last (c ∷ rest) f false first e =
-    let read : ◌≡◌ {A = Result (ℕ × List ℕ) PpmFault} (Err BadNumber) (Err f) = sym (ap (λ b. cond b (number_at last (behind is_white (c ∷ rest))) (Err (missing_at (c ∷ rest)))) first) ∙ e in
+    let read : ◌≡◌ {A = Result (ℕ × List ℕ) PpmFault} (Err BadNumber) (Err f) = sym (ap (λ b. cond b (number_at last (rest_after is_white (c ∷ rest))) (Err (missing_at (c ∷ rest)))) first) ∙ e in
     subst (SampleBreaks m last (c ∷ rest) Plain) (err_inside BadNumber f read) (no_white c rest first refl)
 
 -- a sample that is not read
@@ -87,7 +87,7 @@ sample_err f m last text d e = by (bind_err (spelled_at f m last text) (at_most 
 white_read : (last : Bool) (text white back : List ℕ) → AreWhite white → begins_with is_white back ≡ false → text ≡ white ++ back → plain_at last text ≡ number_at last back
 white_read last text white back are stops spelled =
     ap (plain_at last) spelled
-    ∙ ap (λ b. cond b (number_at last (behind is_white (white ++ back))) (Err (missing_at (white ++ back)))) (white_first white back are.some are.fit)
+    ∙ ap (λ b. cond b (number_at last (rest_after is_white (white ++ back))) (Err (missing_at (white ++ back)))) (white_first white back are.some are.fit)
     ∙ ap (number_at last) (front_is is_white white back are.fit stops).1
 
 all_white : (last : Bool) (text : List ℕ) → list_all is_white text ≡ true → plain_at last text ≡ Err Truncated
@@ -104,7 +104,7 @@ sample_breaks f m last text d (white_ends e) = ap (λ r. r >>= at_most m) (all_w
 sample_breaks f m last text d (digits_end white digits are some end spelled) =
     ap (λ r. r >>= at_most m) (white_read last text white digits are (ap (begins_with is_white) (sym (append-nil digits)) ∙ no_digit_white digits [] some.some some.fit) spelled ∙ cut_digits last digits end some)
 sample_breaks f m last text d (no_white c rest e spelled) =
-    ap (λ t. plain_at last t >>= at_most m) spelled ∙ ap (λ b. cond b (number_at last (behind is_white (c ∷ rest))) (Err BadNumber) >>= at_most m) e
+    ap (λ t. plain_at last t >>= at_most m) spelled ∙ ap (λ b. cond b (number_at last (rest_after is_white (c ∷ rest))) (Err BadNumber) >>= at_most m) e
 sample_breaks f m last text d (no_sample white c rest are w e spelled) = ap (λ r. r >>= at_most m) (white_read last text white (c ∷ rest) are w spelled ∙ number_none last (c ∷ rest) e)
 sample_breaks f m last text d (large_sample white digits rest are some large may spelled) =
     ap (λ r. r >>= at_most m) (white_read last text white (digits ++ rest) are (no_digit_white digits rest some.some some.fit) spelled ∙ number_large last digits rest some may.0 may.1 large)

@@ -12,7 +12,7 @@ use Rattle.ppm_read.specs.declared.header.Format.{Format}
 use Rattle.ppm_read.specs.declared.header.Format.TheVariants.{Plain, Raw}
 use Rattle.ppm_read.specs.declared.header.Head.{Head}
 use Rattle.picture_rows.specs.Reading.{◌>>=◌}
-use Rattle.ppm_read.specs.Number.{is_white, begins_comment, is_digit, behind, missing_at, begins_with, is_cut, number_at}
+use Rattle.ppm_read.specs.Number.{is_white, begins_comment, is_digit, rest_after, missing_at, begins_with, is_cut, number_at}
 use Rattle.picture_rows.specs.PixelBytes.{scaled}
 use Rattle.picture_rows.specs.RowsLeft.{RowsLeft, with_row}
 use Rattle.ppm_read.specs.Raster.{byte_at, word_at, plain_at, spelled_at, at_most, sample_at, samples_at, channel_count, rgba, pixels_at, row_at, row_then, rows_of}
@@ -47,8 +47,8 @@ raw_front false (h ∷ l ∷ rest) x e =
 
 pub spelled_front : (f : Format) (m : ℕ) (last : Bool) (text : List ℕ) (x : ℕ × List ℕ) → spelled_at f m last text ≡ Ok x → SampleFront f m last text x
 spelled_front Plain m last text x e =
-    let white = cond_ok (begins_with is_white text) (number_at last (behind is_white text)) _ x e in
-    let number = number_front last (behind is_white text) x.0 x.1 white.1 in
+    let white = cond_ok (begins_with is_white text) (number_at last (rest_after is_white text)) _ x e in
+    let number = number_front last (rest_after is_white text) x.0 x.1 white.1 in
     record {
       one = take_while is_white text ++ number.digits;
       is = record {
@@ -100,7 +100,7 @@ spelled_spelled Plain m last v one rest is ends =
     let text_is : one ++ rest ≡ is.white ++ back = ap (λ l. l ++ rest) is.spelled ∙ append_assoc is.white is.digits rest in
     let split = front_is is_white is.white back is.fit (no_white back (digit_first is.digits rest is.is_number.some is.is_number.fit)) in
     ap (plain_at last) text_is
-    ∙ ap (λ b. cond b (number_at last (behind is_white (is.white ++ back))) (Err (missing_at (is.white ++ back)))) (white_first is.white back is.some is.fit)
+    ∙ ap (λ b. cond b (number_at last (rest_after is_white (is.white ++ back))) (Err (missing_at (is.white ++ back)))) (white_first is.white back is.some is.fit)
     ∙ ap (number_at last) split.1
     ∙ number_spelled last v is.digits rest is.is_number ends.0 ends.1
 spelled_spelled Raw m last v one rest is ends = raw_spelled (ltb m 256) v one rest is

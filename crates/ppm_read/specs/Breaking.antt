@@ -1,6 +1,6 @@
 -- The first rule that a text breaks, by the grammar of Netpbm's ppm(5) and pgm(5): up to which place it is well spelled, and what is
--- wrong behind that. The names of what is wrong, and that the first in the order of the text counts, are this project's own.
-use Rattle.std.specs.Prelude.{◌≡◌, ℕ, ◌+◌, ◌*◌, ◌^◌, ◌<◌, ◌≤◌, ◌⊎◌, Bool, true, false, not, ◌==◌, List, [], ◌∷◌, ◌++◌, length, Ok, Err, Result, ⊤}
+-- wrong after that. The names of what is wrong, and that the first in the order of the text counts, are this project's own.
+use Rattle.std.specs.Prelude.{◌≡◌, ℕ, ◌+◌, ◌*◌, ◌<◌, ◌≤◌, ◌⊎◌, Bool, true, false, not, ◌==◌, List, [], ◌∷◌, ◌++◌, length, Ok, Err, Result, ⊤}
 use Rattle.std.specs.List.{list_all, flat_map}
 use Rattle.std.specs.Str.Parse.{digits_value}
 use Rattle.ppm_read.specs.declared.fault.PpmFault.{PpmFault}
@@ -9,14 +9,14 @@ use Rattle.ppm_read.specs.declared.header.Channels.{Channels}
 use Rattle.ppm_read.specs.declared.header.Format.{Format}
 use Rattle.ppm_read.specs.declared.header.Format.TheVariants.{Plain, Raw}
 use Rattle.ppm_read.specs.declared.header.Head.{Head}
-use Rattle.ppm_read.specs.Number.{is_white, is_line_end, begins_comment, is_digit, begins_with, is_cut}
-use Rattle.ppm_read.specs.Header.{kind_of}
+use Rattle.ppm_read.specs.Number.{number_limit, is_white, is_line_end, begins_comment, is_digit, begins_with, is_cut}
+use Rattle.ppm_read.specs.Header.{most_maximum, kind_of}
 use Rattle.ppm_read.specs.Raster.{channel_count}
 use Rattle.ppm_read.specs.Raw.{sample_length}
 use Rattle.ppm_read.specs.Spelling.{GapPart, gap_bytes, is_gap_part, IsGap, IsPart, IsHeader, IsSample, AreSamples, IsSpelled}
 use Rattle.picture_rows.specs.FullPicture.{FullPicture}
 
--- more text stands behind a number, and begins with no digit
+-- more text stands after a number, and begins with no digit
 abbrev pub goes_on : List ℕ → Bool
 goes_on rest = begins_with (λ c. not (is_digit c)) rest
 
@@ -48,15 +48,15 @@ pub data PartBreaks (text : List ℕ) : PpmFault → Type 0 where
   ends_in_number : (gap digits : List ℕ) → IsGap gap → AreDigits digits → text ≡ gap ++ digits → PartBreaks text Truncated
   no_gap : (c : ℕ) (rest : List ℕ) → is_white c ≡ false → begins_comment c ≡ false → text ≡ c ∷ rest → PartBreaks text BadNumber
   no_number : (gap : List ℕ) (c : ℕ) (rest : List ℕ) → IsGap gap → is_white c ≡ false → begins_comment c ≡ false → is_digit c ≡ false → text ≡ gap ++ c ∷ rest → PartBreaks text BadNumber
-  too_large : (gap digits rest : List ℕ) → IsGap gap → AreDigits digits → 2 ^ 32 ≤ digits_value 10 digits → goes_on rest ≡ true → text ≡ gap ++ (digits ++ rest) → PartBreaks text BadNumber
+  too_large : (gap digits rest : List ℕ) → IsGap gap → AreDigits digits → number_limit ≤ digits_value 10 digits → goes_on rest ≡ true → text ≡ gap ++ (digits ++ rest) → PartBreaks text BadNumber
 
--- the magic number of this kind, and the text behind it
+-- the magic number of this kind, and the text after it
 pub record HasKind (text : List ℕ) (kind : Channels × Format) (rest : List ℕ) : Type 0 where
   pub digit : ℕ
   pub is_kind : kind_of digit ≡ Ok kind
   pub spelled : text ≡ 80 ∷ digit ∷ rest
 
--- with the width behind it
+-- with the width after it
 pub record HasWidth (text : List ℕ) (kind : Channels × Format) (w : ℕ) (rest : List ℕ) : Type 0 where
   pub before : List ℕ
   pub width : List ℕ
@@ -87,7 +87,7 @@ pub record HasMaximum (text : List ℕ) (kind : Channels × Format) (m : ℕ) (r
   pub spelled : before ≡ maximum ++ rest
   pub goes : goes_on rest ≡ true
 
--- what may stand behind a sample that is not the raster's last, and behind one that may be
+-- what may stand after a sample that is not the raster's last, and after one that may be
 abbrev pub MayStand : Format → Bool → List ℕ → Type 0
 MayStand Plain last rest = (begins_with is_digit rest ≡ false) × (is_cut last rest ≡ false)
 MayStand Raw last rest = ⊤
@@ -99,14 +99,14 @@ pub data SampleBreaks (maximum : ℕ) (last : Bool) (text : List ℕ) : Format �
   digits_end : (white digits : List ℕ) → AreWhite white → AreDigits digits → last ≡ false → text ≡ white ++ digits → SampleBreaks maximum last text Plain Truncated
   no_white : (c : ℕ) (rest : List ℕ) → is_white c ≡ false → text ≡ c ∷ rest → SampleBreaks maximum last text Plain BadNumber
   no_sample : (white : List ℕ) (c : ℕ) (rest : List ℕ) → AreWhite white → is_white c ≡ false → is_digit c ≡ false → text ≡ white ++ c ∷ rest → SampleBreaks maximum last text Plain BadNumber
-  large_sample : (white digits rest : List ℕ) → AreWhite white → AreDigits digits → 2 ^ 32 ≤ digits_value 10 digits → MayStand Plain last rest → text ≡ white ++ (digits ++ rest) → SampleBreaks maximum last text Plain BadNumber
+  large_sample : (white digits rest : List ℕ) → AreWhite white → AreDigits digits → number_limit ≤ digits_value 10 digits → MayStand Plain last rest → text ≡ white ++ (digits ++ rest) → SampleBreaks maximum last text Plain BadNumber
   above : (format : Format) (v : ℕ) (one rest : List ℕ) → IsSample format maximum v one → maximum < v → MayStand format last rest → text ≡ one ++ rest → SampleBreaks maximum last text format SampleAbove
 
 -- how many samples a raster has
 abbrev pub sample_count : Head → ℕ
 sample_count head = channel_count head.channels * head.width * head.height
 
--- plain samples begin behind the maximum, which is a number
+-- plain samples begin after the maximum, which is a number
 abbrev pub BeginsSamples : Format → List ℕ → Type 0
 BeginsSamples Plain rest = goes_on rest ≡ true
 BeginsSamples Raw rest = ⊤
@@ -118,8 +118,8 @@ pub data HeaderBreaks (text : List ℕ) : PpmFault → Type 0 where
   in_height : (fault : PpmFault) (kind : Channels × Format) (w : ℕ) (rest : List ℕ) → HasWidth text kind w rest → PartBreaks rest fault → HeaderBreaks text fault
   no_size : (kind : Channels × Format) (w h : ℕ) (rest : List ℕ) → HasSides text kind w h rest → (w ≡ 0) ⊎ (h ≡ 0) → HeaderBreaks text BadSize
   in_maximum : (fault : PpmFault) (kind : Channels × Format) (w h : ℕ) (rest : List ℕ) → HasSides text kind w h rest → 1 ≤ w → 1 ≤ h → PartBreaks rest fault → HeaderBreaks text fault
-  no_maximum : (kind : Channels × Format) (m : ℕ) (rest : List ℕ) → HasMaximum text kind m rest → (m ≡ 0) ⊎ (65535 < m) → HeaderBreaks text BadMaximum
-  no_end : (channels : Channels) (m : ℕ) (rest : List ℕ) → HasMaximum text (channels, Raw) m rest → 1 ≤ m → m ≤ 65535 → begins_with is_white rest ≡ false → HeaderBreaks text BadNumber
+  no_maximum : (kind : Channels × Format) (m : ℕ) (rest : List ℕ) → HasMaximum text kind m rest → (m ≡ 0) ⊎ (most_maximum < m) → HeaderBreaks text BadMaximum
+  no_end : (channels : Channels) (m : ℕ) (rest : List ℕ) → HasMaximum text (channels, Raw) m rest → 1 ≤ m → m ≤ most_maximum → begins_with is_white rest ≡ false → HeaderBreaks text BadNumber
 
 -- the header's rules, and then the raster's
 pub data Breaks (text : List ℕ) : PpmFault → Type 0 where

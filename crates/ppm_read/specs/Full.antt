@@ -10,7 +10,7 @@ use Rattle.ppm_read.specs.Header.{head_of}
 use Rattle.picture_rows.specs.RowsLeft.{RowsLeft}
 use Rattle.ppm_read.specs.Raster.{rows_of}
 
--- the rows that a text has behind its header; what stands behind the last row is ignored
+-- the rows that a text has after its header; what stands after the last row is ignored
 abbrev pub rows_under : Head → List ℕ → RowsLeft PpmFault
 rows_under head text = rows_of head head.height (drop head.raster_start text)
 

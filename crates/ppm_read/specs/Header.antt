@@ -17,7 +17,7 @@ abbrev pub kind_of : ℕ → Result (Channels × Format) PpmFault
 kind_of digit = if digit == 50 then Ok (Grey, Plain) else (if digit == 51 then Ok (Colour, Plain)
     else (if digit == 53 then Ok (Grey, Raw) else (if digit == 54 then Ok (Colour, Raw) else Err BadMagic)))
 
--- the kind that the magic number stands for, and the text behind it
+-- the kind that the magic number stands for, and the text after it
 abbrev pub magic_at : List ℕ → Result (Channels × Format × List ℕ) PpmFault
 magic_at [] = Err BadMagic
 magic_at (p ∷ []) = Err BadMagic
@@ -34,13 +34,17 @@ size_at text = do
   height ← part_at width.1
   if nat_lt 0 width.0 && nat_lt 0 height.0 then Ok (width.0, height.0, height.1) else Err BadSize
 
+-- the greatest maximum of a sample
+abbrev pub most_maximum : ℕ
+most_maximum = 65535
+
 -- the maximum of a sample
 unfoldable pub maximum_at : List ℕ → Result (ℕ × List ℕ) PpmFault
 maximum_at text = do
   maximum ← part_at text
-  if nat_lt 0 maximum.0 && nat_le maximum.0 65535 then Ok maximum else Err BadMaximum
+  if nat_lt 0 maximum.0 && nat_le maximum.0 most_maximum then Ok maximum else Err BadMaximum
 
--- the raster: raw samples begin behind one white byte, plain ones with the white bytes before the first
+-- the raster: raw samples begin after one white byte, plain ones with the white bytes before the first
 abbrev pub raster_at : Format → List ℕ → Result (List ℕ) PpmFault
 raster_at Plain text = Ok text
 raster_at Raw text = if begins_with is_white text then Ok (drop 1 text) else Err (missing_at text)

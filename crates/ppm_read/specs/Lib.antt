@@ -6,7 +6,7 @@ pub mod Number
 pub mod Header
 pub mod Raster
 pub mod Raw
-pub mod Plain
 pub mod Full
 pub mod Spelling
 pub mod Breaking
+pub mod inside

@@ -23,20 +23,20 @@ begins_comment c = c == 35
 abbrev pub is_digit : ℕ → Bool
 is_digit = is_ascii_digit
 
--- the text behind all bytes that come and pass this test
-abbrev pub behind : (ℕ → Bool) → List ℕ → List ℕ
-behind test text = drop (prefix_len test text) text
+-- the text after all bytes that come and pass this test
+abbrev pub rest_after : (ℕ → Bool) → List ℕ → List ℕ
+rest_after test text = drop (prefix_len test text) text
 
--- The text behind the white bytes and comments that it begins with. A comment is `#` and all bytes before the next line end,
+-- The text after the white bytes and comments that it begins with. A comment is `#` and all bytes before the next line end,
 -- which is white; one that no line end stops takes the whole text.
 abbrev mutual
-  pub behind_gap : List ℕ → List ℕ
-  behind_gap [] = []
-  behind_gap (c ∷ rest) = if is_white c then behind_gap rest else (if begins_comment c then behind_comment rest else c ∷ rest)
+  pub after_gap : List ℕ → List ℕ
+  after_gap [] = []
+  after_gap (c ∷ rest) = if is_white c then after_gap rest else (if begins_comment c then after_comment rest else c ∷ rest)
 
-  pub behind_comment : List ℕ → List ℕ
-  behind_comment [] = []
-  behind_comment (c ∷ rest) = if is_line_end c then behind_gap rest else behind_comment rest
+  pub after_comment : List ℕ → List ℕ
+  after_comment [] = []
+  after_comment (c ∷ rest) = if is_line_end c then after_gap rest else after_comment rest
 
 -- What is wrong where a byte that has to come does not: the text ends, or another byte stands there.
 abbrev pub missing_at : List ℕ → PpmFault
@@ -48,19 +48,23 @@ abbrev pub begins_with : (ℕ → Bool) → List ℕ → Bool
 begins_with test [] = false
 begins_with test (c ∷ rest) = test c
 
--- the text behind a gap, which is one or more white bytes and comments
+-- the text after a gap, which is one or more white bytes and comments
 abbrev pub gap_at : List ℕ → Result (List ℕ) PpmFault
-gap_at text = if begins_with (λ c. is_white c || begins_comment c) text then Ok (behind_gap text) else Err (missing_at text)
+gap_at text = if begins_with (λ c. is_white c || begins_comment c) text then Ok (after_gap text) else Err (missing_at text)
 
 -- a number is cut where it ends with the text and may not
 abbrev pub is_cut : Bool → List ℕ → Bool
 is_cut may_end rest = length rest == 0 && not may_end
 
--- A number, which is all digits that come, and the text behind it. Whether it may end with the text is for the caller to say.
+-- numbers are below this
+abbrev pub number_limit : ℕ
+number_limit = 2 ^ 32
+
+-- A number, which is all digits that come, and the text after it. Whether it may end with the text is for the caller to say.
 unfoldable pub number_at : Bool → List ℕ → Result (ℕ × List ℕ) PpmFault
 number_at may_end text =
     let digits = take_while is_digit text in
-    let rest = behind is_digit text in
+    let rest = rest_after is_digit text in
     if length digits == 0 then Err (missing_at text)
     else (if is_cut may_end rest then Err Truncated
-    else (if nat_lt (digits_value 10 digits) (2 ^ 32) then Ok (digits_value 10 digits, rest) else Err BadNumber))
+    else (if nat_lt (digits_value 10 digits) number_limit then Ok (digits_value 10 digits, rest) else Err BadNumber))

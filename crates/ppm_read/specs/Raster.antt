@@ -12,7 +12,7 @@ use Rattle.ppm_read.specs.declared.header.Head.{Head}
 use Rattle.picture_rows.specs.Reading.{◌>>=◌}
 use Rattle.picture_rows.specs.RowsLeft.{RowsLeft, with_row}
 use Rattle.picture_rows.specs.PixelBytes.{scaled}
-use Rattle.ppm_read.specs.Number.{is_white, behind, missing_at, begins_with, number_at}
+use Rattle.ppm_read.specs.Number.{is_white, rest_after, missing_at, begins_with, number_at}
 
 -- a raw sample of one byte
 abbrev pub byte_at : List ℕ → Result (ℕ × List ℕ) PpmFault
@@ -25,9 +25,9 @@ word_at [] = Err Truncated
 word_at (high ∷ []) = Err Truncated
 word_at (high ∷ low ∷ rest) = Ok (256 * high + low, rest)
 
--- A plain sample: a number behind one or more white bytes. The last one of a raster may end with the text.
+-- A plain sample: a number after one or more white bytes. The last one of a raster may end with the text.
 abbrev pub plain_at : Bool → List ℕ → Result (ℕ × List ℕ) PpmFault
-plain_at last text = if begins_with is_white text then number_at last (behind is_white text) else Err (missing_at text)
+plain_at last text = if begins_with is_white text then number_at last (rest_after is_white text) else Err (missing_at text)
 
 -- a sample as it is spelled: raw ones have one byte where the maximum is below 256, else two
 abbrev pub spelled_at : Format → ℕ → Bool → List ℕ → Result (ℕ × List ℕ) PpmFault
@@ -38,11 +38,11 @@ spelled_at Raw maximum last text = if nat_lt maximum 256 then byte_at text else 
 abbrev pub at_most : ℕ → ℕ × List ℕ → Result (ℕ × List ℕ) PpmFault
 at_most maximum sample = if nat_lt maximum sample.0 then Err SampleAbove else Ok sample
 
--- a sample that keeps to its spelling and its maximum, and the text behind it
+-- a sample that keeps to its spelling and its maximum, and the text after it
 abbrev pub sample_at : Format → ℕ → Bool → List ℕ → Result (ℕ × List ℕ) PpmFault
 sample_at format maximum last text = spelled_at format maximum last text >>= at_most maximum
 
--- So many samples, one behind the other, and the text behind them. `last` says that they are the raster's last ones.
+-- So many samples, one after the other, and the text after them. `last` says that they are the raster's last ones.
 abbrev pub samples_at : Format → ℕ → Bool → ℕ → List ℕ → Result (List ℕ × List ℕ) PpmFault
 samples_at format maximum last zero text = Ok ([], text)
 samples_at format maximum last (suc count) text = do
@@ -62,7 +62,7 @@ rgba Grey (v ∷ rest) = v ∷ v ∷ v ∷ 255 ∷ rgba Grey rest
 rgba Colour (r ∷ g ∷ b ∷ rest) = r ∷ g ∷ b ∷ 255 ∷ rgba Colour rest
 rgba Colour rest = []
 
--- so many pixels of a row, and the text behind them; `last` says that they are the raster's last ones
+-- so many pixels of a row, and the text after them; `last` says that they are the raster's last ones
 unfoldable pub pixels_at : Head → Bool → ℕ → List ℕ → Result (List ℕ × List ℕ) PpmFault
 pixels_at head last count text = do
   samples ← samples_at head.format head.maximum last (channel_count head.channels * count) text

@@ -1,13 +1,13 @@
 -- How a picture is spelled, by the grammar of Netpbm's ppm(5) and pgm(5). What of it is this project's own, the files of the
 -- header's and the raster's definitions say.
-use Rattle.std.specs.Prelude.{◌≡◌, ℕ, ◌+◌, ◌*◌, ◌^◌, ◌<◌, ◌≤◌, Bool, true, false, not, ◌&&◌, nat_lt, List, [], ◌∷◌, ◌++◌, length, map, Ok, ⊤}
+use Rattle.std.specs.Prelude.{◌≡◌, ℕ, ◌+◌, ◌*◌, ◌<◌, ◌≤◌, Bool, true, false, not, ◌&&◌, nat_lt, List, [], ◌∷◌, ◌++◌, length, map, Ok, ⊤}
 use Rattle.std.specs.List.{list_all, flat_map}
 use Rattle.std.specs.Str.Parse.{digits_value}
 use Rattle.ppm_read.specs.declared.header.Format.{Format}
 use Rattle.ppm_read.specs.declared.header.Format.TheVariants.{Plain, Raw}
 use Rattle.ppm_read.specs.declared.header.Head.{Head}
-use Rattle.ppm_read.specs.Number.{is_white, is_line_end, is_digit, begins_with}
-use Rattle.ppm_read.specs.Header.{kind_of}
+use Rattle.ppm_read.specs.Number.{number_limit, is_white, is_line_end, is_digit, begins_with}
+use Rattle.ppm_read.specs.Header.{most_maximum, kind_of}
 use Rattle.picture_rows.specs.PixelBytes.{scaled}
 use Rattle.ppm_read.specs.Raster.{channel_count, rgba}
 use Rattle.picture_rows.specs.FullPicture.{FullPicture}
@@ -39,7 +39,7 @@ pub record IsNumber (n : ℕ) (digits : List ℕ) : Type 0 where
   pub some : 0 < length digits
   pub fit : list_all is_digit digits ≡ true
   pub value : digits_value 10 digits ≡ n
-  pub small : n < 2 ^ 32
+  pub small : n < number_limit
 
 -- a number of the header, with the gap before it
 pub record IsPart (n : ℕ) (part : List ℕ) : Type 0 where
@@ -69,10 +69,10 @@ pub record IsHeader (head : Head) (header : List ℕ) : Type 0 where
   pub wide : 1 ≤ head.width
   pub high : 1 ≤ head.height
   pub low : 1 ≤ head.maximum
-  pub most : head.maximum ≤ 65535
+  pub most : head.maximum ≤ most_maximum
   pub spelled : header ≡ 80 ∷ digit ∷ (width ++ (height ++ (maximum ++ end)))
 
--- a plain sample: a number behind one or more white bytes
+-- a plain sample: a number after one or more white bytes
 pub record IsPlainSample (v : ℕ) (bytes : List ℕ) : Type 0 where
   pub white : List ℕ
   pub digits : List ℕ
@@ -91,7 +91,7 @@ abbrev pub IsSample : Format → ℕ → ℕ → List ℕ → Type 0
 IsSample Plain maximum v bytes = IsPlainSample v bytes
 IsSample Raw maximum v bytes = IsRawSample (nat_lt maximum 256) v bytes
 
--- samples one behind the other, none above the maximum
+-- samples one after the other, none above the maximum
 abbrev pub AreSamples : Format → ℕ → List ℕ → List ℕ → Type 0
 AreSamples format maximum [] bytes = bytes ≡ []
 AreSamples format maximum (v ∷ vs) bytes = (one : List ℕ) × (others : List ℕ) × IsSample format maximum v one × (v ≤ maximum) × AreSamples format maximum vs others × (bytes ≡ one ++ others)

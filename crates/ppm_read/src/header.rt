@@ -116,7 +116,7 @@ fn raster(format: Format, text: &[u8]) -> Result<&[u8], PpmFault>
     Ok(rest)
 }
 
-/// Reads the header that a text begins with, and looks at nothing behind it.
+/// Reads the header that a text begins with, and looks at nothing after it.
 ///
 /// The header is that of Netpbm's ppm(5) and pgm(5): `P2`, `P3`, `P5` or `P6`, the width, the height
 /// and the maximum, with white space or comments before each number. Where the samples are raw, one

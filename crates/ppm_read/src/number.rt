@@ -1,8 +1,8 @@
-// White space, comments and numbers at the front of a text.
+// White space, comments and numbers at the beginning of a text.
 ghost use Rattle.std.specs.Prelude.{◌||◌, ◌≡◌, ◌<◌, ◌≤◌, ◌^◌, ◌*◌, ◌+◌, ◌-◌, length, drop, IfOk};
 ghost use Rattle.std.specs.List.{prefix_len};
 ghost use Rattle.picture_rows.specs.Reading.{Gives};
-ghost use Rattle.ppm_read.specs.Number.{is_white, is_line_end, begins_comment, is_digit, behind, behind_gap, missing_at, begins_with, gap_at, is_cut, number_at};
+ghost use Rattle.ppm_read.specs.Number.{is_white, is_line_end, begins_comment, is_digit, rest_after, after_gap, missing_at, begins_with, gap_at, is_cut, number_at};
 
 use crate::fault::PpmFault;
 use decimal::leading_digits;
@@ -34,9 +34,9 @@ fn white_count(text: &[u8]) -> usize
     text.iter().take_while(|byte| is_white(**byte)).count()
 }
 
-// The text behind the white bytes that it begins with.
+// The text after the white bytes that it begins with.
 pub(crate) fn after_white(text: &[u8]) -> &[u8]
-    ensures { result.now ≡ behind is_white text.now }
+    ensures { result.now ≡ rest_after is_white text.now }
 {
     let (_, rest) = text.split_at(white_count(text));
     rest
@@ -44,7 +44,7 @@ pub(crate) fn after_white(text: &[u8]) -> &[u8]
 
 // How many bytes the white space and the comments have that the text begins with.
 fn gap_length(text: &[u8]) -> usize
-    ensures behind { drop result text.now ≡ behind_gap text.now }
+    ensures behind { drop result text.now ≡ after_gap text.now }
     ensures bound { result ≤ length text.now }
 {
     let mut in_comment = false;

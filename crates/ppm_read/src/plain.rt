@@ -4,7 +4,7 @@ ghost use Rattle.ppm_read.specs.declared.header.Format.TheVariants.{Plain};
 ghost use Rattle.picture_rows.specs.Reading.{Gives};
 ghost use Rattle.picture_rows.specs.PixelBytes.{rgba_bytes};
 ghost use Rattle.picture_rows.specs.Scale.{IsScale};
-ghost use Rattle.ppm_read.specs.Plain.{grey_pixel_at, colour_pixel_at};
+ghost use Rattle.ppm_read.specs.inside.Plain.{grey_pixel_at, colour_pixel_at};
 ghost use Rattle.ppm_read.specs.Raster.{sample_at, pixels_at, row_at};
 
 use crate::fault::PpmFault;

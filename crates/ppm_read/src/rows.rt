@@ -52,7 +52,7 @@ fn read_row<'a>(
 }
 
 impl<'a> Rows<'a> {
-    /// All rows of the picture whose header was read from these bytes. Bytes behind the last row
+    /// All rows of the picture whose header was read from these bytes. Bytes after the last row
     /// are never looked at.
     pub fn new(bytes: &'a [u8], head: Head) -> Rows<'a>
         requires { head_of bytes.now ≡ Ok head }

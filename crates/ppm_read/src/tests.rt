@@ -15,12 +15,14 @@ fn worked_texts()
         ≡ Ok record { width = 1; height = 1; pixels = 0 ∷ 119 ∷ 255 ∷ 255 ∷ [] } }
     ensures two_bytes { full_picture (codes "P5" ++ 10 ∷ codes "1 1" ++ 10 ∷ codes "65535" ++ 10 ∷ 128 ∷ 0 ∷ [])
         ≡ Ok record { width = 1; height = 1; pixels = 128 ∷ 128 ∷ 128 ∷ 255 ∷ [] } }
-    ensures bytes_behind { full_picture (codes "P6 1 1 255 " ++ 1 ∷ 2 ∷ 3 ∷ 4 ∷ []) ≡ Ok record { width = 1; height = 1; pixels = 1 ∷ 2 ∷ 3 ∷ 255 ∷ [] } }
+    ensures bytes_after { full_picture (codes "P6 1 1 255 " ++ 1 ∷ 2 ∷ 3 ∷ 4 ∷ []) ≡ Ok record { width = 1; height = 1; pixels = 1 ∷ 2 ∷ 3 ∷ 255 ∷ [] } }
     ensures short { full_picture (codes "P6 1 2 255 " ++ 1 ∷ 2 ∷ 3 ∷ 4 ∷ 5 ∷ []) ≡ Err PpmFault.Truncated }
     ensures open_comment { full_picture (codes "P6#x") ≡ Err PpmFault.Truncated }
+    ensures greatest_number { full_picture (codes "P6 4294967295 1 0 ") ≡ Err PpmFault.BadMaximum }
     ensures great_number { full_picture (codes "P6 4294967296 1 255 ") ≡ Err PpmFault.BadNumber }
-    ensures comment_behind { full_picture (codes "P6 1 1 255#c" ++ 10 ∷ 10 ∷ 1 ∷ 2 ∷ 3 ∷ []) ≡ Err PpmFault.BadNumber }
+    ensures comment_before_samples { full_picture (codes "P6 1 1 255#c" ++ 10 ∷ 10 ∷ 1 ∷ 2 ∷ 3 ∷ []) ≡ Err PpmFault.BadNumber }
     ensures no_width { full_picture (codes "P6 0 1 ") ≡ Err PpmFault.BadSize }
+    ensures greatest_maximum { full_picture (codes "P5 1 1 65535 ") ≡ Err PpmFault.Truncated }
     ensures great_maximum { full_picture (codes "P5 1 1 65536 ") ≡ Err PpmFault.BadMaximum }
     ensures above { full_picture (codes "P2 1 1 9 10") ≡ Err PpmFault.SampleAbove }
     ensures unknown { full_picture (codes "hello") ≡ Err PpmFault.BadMagic }

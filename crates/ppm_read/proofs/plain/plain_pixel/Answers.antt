@@ -1,5 +1,5 @@
 use Rattle.std.proofs.Common.{ap, sym, ◌∙◌}
-use Rattle.ppm_read.specs.Plain.{grey_pixel_at, colour_pixel_at}
+use Rattle.ppm_read.specs.inside.Plain.{grey_pixel_at, colour_pixel_at}
 use Rattle.ppm_read.proofs.PlainRows.{pixels_at-grey, pixels_at-colour}
 use Rattle.ppm_read.proofs.plain.plain_pixel.Goals as goal
 

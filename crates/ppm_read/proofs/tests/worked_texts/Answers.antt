@@ -20,9 +20,9 @@ pub returns-clause-two_bytes : goal.returns-clause-two_bytes
 unfolding number_at size_at maximum_at head_of pixels_at
 returns-clause-two_bytes c = refl
 
-pub returns-clause-bytes_behind : goal.returns-clause-bytes_behind
+pub returns-clause-bytes_after : goal.returns-clause-bytes_after
 unfolding number_at size_at maximum_at head_of pixels_at
-returns-clause-bytes_behind c = refl
+returns-clause-bytes_after c = refl
 
 pub returns-clause-short : goal.returns-clause-short
 unfolding number_at size_at maximum_at head_of pixels_at
@@ -36,9 +36,9 @@ pub returns-clause-great_number : goal.returns-clause-great_number
 unfolding number_at size_at maximum_at head_of pixels_at
 returns-clause-great_number c = refl
 
-pub returns-clause-comment_behind : goal.returns-clause-comment_behind
+pub returns-clause-comment_before_samples : goal.returns-clause-comment_before_samples
 unfolding number_at size_at maximum_at head_of pixels_at
-returns-clause-comment_behind c = refl
+returns-clause-comment_before_samples c = refl
 
 pub returns-clause-no_width : goal.returns-clause-no_width
 unfolding number_at size_at maximum_at head_of pixels_at
@@ -55,3 +55,11 @@ returns-clause-above c = refl
 pub returns-clause-unknown : goal.returns-clause-unknown
 unfolding number_at size_at maximum_at head_of pixels_at
 returns-clause-unknown c = refl
+
+pub returns-clause-greatest_number : goal.returns-clause-greatest_number
+unfolding number_at size_at maximum_at head_of pixels_at
+returns-clause-greatest_number c = refl
+
+pub returns-clause-greatest_maximum : goal.returns-clause-greatest_maximum
+unfolding number_at size_at maximum_at head_of pixels_at
+returns-clause-greatest_maximum c = refl
