@@ -82,9 +82,9 @@ unfolding masks_at
 masks_is info_size bits text masks e =
     let whole = rule_ok _ Truncated (cond (are_masks bits (stored_masks info_size text)) (Ok (stored_masks info_size text)) (Err BadMasks)) masks e in
     kept (are_masks bits (stored_masks info_size text)) whole.1 where
-  kept : (b : Bool) → ◌≡◌ {A = Result Masks BmpFault} (cond b (Ok (stored_masks info_size text)) (Err BadMasks)) (Ok masks) → stored_masks info_size text ≡ masks
-  kept true e = cc
-  kept false e = cc
+      kept : (b : Bool) → ◌≡◌ {A = Result Masks BmpFault} (cond b (Ok (stored_masks info_size text)) (Err BadMasks)) (Ok masks) → stored_masks info_size text ≡ masks
+      kept true e = cc
+      kept false e = cc
 
 palette_is : (info_size bits : ℕ) (text : List ℕ) (palette : Palette) → palette_at info_size bits text ≡ Ok palette → record { start = 14 + info_size; count = palette_count bits (u32_at 46 text) } ≡ palette
 unfolding palette_at
@@ -239,8 +239,8 @@ by_head text head is =
       high = is.high;
       count = length-blocks (4 * head.width) rows long ∙ ap (λ n. 4 * head.width * n) count;
       pixel = λ x y across down.
-      ap (λ l. take 4 (drop (4 * x) l)) (block (4 * head.width) rows y long (omega (arith, count)) ∙ row y down)
-      ∙ row_pixel head text y x across ∙ row_in_text head text y x is across;
+          ap (λ l. take 4 (drop (4 * x) l)) (block (4 * head.width) rows y long (omega (arith, count)) ∙ row y down)
+          ∙ row_pixel head text y x across ∙ row_in_text head text y x is across;
     }
 
 pub by_table : (text : List ℕ) (picture : FullPicture) → full_picture text ≡ Ok picture → IsByTable text picture

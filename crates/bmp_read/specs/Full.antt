@@ -10,7 +10,7 @@ use Rattle.bmp_read.specs.Header.{head_of}
 use Rattle.picture_rows.specs.RowsLeft.{RowsLeft}
 use Rattle.bmp_read.specs.Raster.{rows_of}
 
--- the rows that a text has behind its header; what stands behind the raster is ignored
+-- the rows that a text has after its header; what stands after the raster is ignored
 abbrev pub rows_under : Head → List ℕ → RowsLeft BmpFault
 rows_under head text = rows_of head head.height text
 

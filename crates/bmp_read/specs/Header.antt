@@ -1,4 +1,4 @@
--- The headers of a Windows bitmap: the file header, BITMAPFILEHEADER, of 14 bytes, and behind it an info header, which is
+-- The headers of a Windows bitmap: the file header, BITMAPFILEHEADER, of 14 bytes, and after it an info header, which is
 -- BITMAPINFOHEADER, BITMAPV4HEADER or BITMAPV5HEADER. A place is counted in bytes from the text's beginning. Which rules there are,
 -- their order, that masks are runs of 1 bits and that all other fields are ignored, is this project's own.
 use Rattle.std.specs.Prelude.{ℕ, ◌+◌, ◌-◌, ◌*◌, ◌/◌, ◌^◌, ◌<◌, ◌≤◌, Bool, false, not, ◌&&◌, ◌||◌, ◌==◌, nat_le, nat_lt, List, [], ◌∷◌, length, if◌then◌else◌, Ok, Err, Result}
@@ -103,7 +103,7 @@ masks_at info_size bits text =
 abbrev pub palette_count : ℕ → ℕ → ℕ
 palette_count bits stored = if stored == 0 || nat_lt (2 ^ bits) stored then 2 ^ bits else stored
 
--- The palette, which stands behind the headers. An entry has four bytes.
+-- The palette, which stands after the headers. An entry has four bytes.
 unfoldable pub palette_at : ℕ → ℕ → List ℕ → Result Palette BmpFault
 palette_at info_size bits text =
     let start = 14 + info_size in

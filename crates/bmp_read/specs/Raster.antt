@@ -1,4 +1,4 @@
--- The raster, as the BMP headers of Windows have it: each row begins at a multiple of four bytes behind the raster's beginning, and the
+-- The raster, as the BMP headers of Windows have it: each row begins at a multiple of four bytes after the raster's beginning, and the
 -- rows come from the bottom, or from the top where the height is below 0. That a raster which does not lie inside the text has
 -- no rows is this project's own.
 use Rattle.std.specs.Prelude.{ℕ, zero, suc, ◌+◌, ◌-◌, ◌*◌, ◌/◌, nat_le, List, [], ◌∷◌, length, take, drop, if◌then◌else◌, Some, None, Bool}

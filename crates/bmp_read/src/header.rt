@@ -1,4 +1,4 @@
-// The headers: the file header and the info header, with the masks or the palette behind them.
+// The headers: the file header and the info header, with the masks or the palette after them.
 ghost use Rattle.std.specs.Prelude.{◌≡◌, ◌<◌, ◌≤◌, ◌+◌, ◌⊎◌, length, IfOk};
 ghost use Rattle.picture_rows.specs.FullPicture.{IsPictureSize};
 ghost use Rattle.bmp_read.specs.Header.{begins_bm, is_info_size, info_size_at, IsSide, HasSides, size_at, is_depth, depth_at, masks_at, palette_count, palette_at, indexed, masked, direct, format_of, head_of};
@@ -219,7 +219,7 @@ fn format(text: &[u8], info_size: u32, compression: u32, bits: u16) -> Result<Fo
     Ok(direct(bits))
 }
 
-/// Reads the headers that a text begins with, and the masks or the place of the palette behind
+/// Reads the headers that a text begins with, and the masks or the place of the palette after
 /// them. Whether the text has the raster is for `Rows` to see.
 ///
 /// The headers are those of Windows bitmaps: BITMAPFILEHEADER, and BITMAPINFOHEADER, BITMAPV4HEADER

@@ -116,7 +116,7 @@ fn write_row(text: &[u8], head: Head, row: &[u8], into: &mut [u8])
 }
 
 impl<'a> Rows<'a> {
-    /// All rows of the picture whose header was read from these bytes. Bytes behind the raster are
+    /// All rows of the picture whose header was read from these bytes. Bytes after the raster are
     /// never looked at.
     pub fn new(bytes: &'a [u8], head: Head) -> Rows<'a>
         requires { head_of bytes.now ≡ Ok head }

@@ -1,5 +1,6 @@
--- White space, comments and numbers, as Netpbm's ppm(5) and pgm(5) have them. That a comment ends before its line's end, and so
--- parts two numbers, that a number is below 2 to the 32nd, and which fault comes first, is this project's own.
+-- White space, comments and numbers, after Netpbm's ppm(5), pgm(5) and pbm(5). This project's own is that a comment ends before
+-- its line's end, and so parts two numbers (in pbm(5) the line's end belongs to it, and one may stand inside a number), that the
+-- bytes 11 and 12 are not white (in pgm(5) they are), that a number is below 2 to the 32nd, and which fault comes first.
 use Rattle.std.specs.Prelude.{ℕ, ◌^◌, Bool, false, not, ◌&&◌, ◌||◌, ◌==◌, nat_lt, List, [], ◌∷◌, length, drop, if◌then◌else◌, Ok, Err, Result}
 use Rattle.std.specs.List.{take_while, prefix_len}
 use Rattle.std.specs.Char.{is_ascii_digit}

@@ -1,5 +1,5 @@
-// The loops of crates/transforms_speed in C: 810 rows of 1080 pixels are packed, and cropped to 540 by 405.
-// cc -O2 bench/transforms.c -o /tmp/transforms && /tmp/transforms
+// The work of the mode `bitmaps` of crates/speed in C: 810 rows of 1080 pixels are packed, and cropped to 540 by 405.
+// cc -O2 bench/bitmaps.c -o /tmp/bitmaps && /tmp/bitmaps
 #include <stdint.h>
 #include <stdio.h>
 #include <stdlib.h>
@@ -72,12 +72,12 @@ static void measure(const char *name, packer *pack, copier *copy, size_t bytes) 
         spent = now() - start;
         if (spent < cropping) cropping = spent;
     }
-    printf("pack %s %llu %llu\n", name, (unsigned long long)packing, (unsigned long long)sum(source, (size_t)W * H * bytes));
-    printf("crop %s %llu %llu\n", name, (unsigned long long)cropping, (unsigned long long)sum(target, (size_t)TW * TH * bytes));
+    printf("pack %s: %llu microseconds, %llu\n", name, (unsigned long long)packing / 1000, (unsigned long long)sum(source, (size_t)W * H * bytes));
+    printf("crop %s: %llu microseconds, %llu\n", name, (unsigned long long)cropping / 1000, (unsigned long long)sum(target, (size_t)TW * TH * bytes));
 }
 
 int main(void) {
-    measure("argb", pack_argb, copy_4, 4);
+    measure("argb8888", pack_argb, copy_4, 4);
     measure("rgb565", pack_rgb565, copy_2, 2);
     measure("alpha8", pack_alpha8, copy_1, 1);
     return 0;

@@ -1,5 +1,5 @@
-// The loops of crates/sampling in C: block sums row by row, and their means by shifts.
-// cc -O2 bench/sampling.c -o /tmp/sampling && /tmp/sampling
+// The work of the mode `samples` of crates/speed in C: block sums row by row, and their means by shifts.
+// cc -O2 bench/samples.c -o /tmp/samples && /tmp/samples
 #include <stdint.h>
 #include <stdio.h>
 #include <stdlib.h>
@@ -10,7 +10,7 @@ enum { WIDTH = 4000, HEIGHT = 64, TIMES = 400 };
 
 static double micros(void) {
     struct timespec t;
-    clock_gettime(CLOCK_THREAD_CPUTIME_ID, &t);
+    clock_gettime(CLOCK_MONOTONIC, &t);
     return t.tv_sec * 1e6 + t.tv_nsec / 1e3;
 }
 
@@ -39,7 +39,8 @@ static void means(uint32_t *restrict sums, uint8_t *restrict into, size_t lanes,
     }
 }
 
-__attribute__((noinline)) static size_t sampled_picture(const uint8_t *pixels, uint32_t width, uint32_t height, uint32_t sample, uint32_t shift) {
+// The sampled picture, which the caller frees.
+__attribute__((noinline)) static uint8_t *sampled_picture(const uint8_t *pixels, uint32_t width, uint32_t height, uint32_t sample, uint32_t shift) {
     size_t blocks = width / sample, lanes = 4 * blocks, length = 0;
     uint32_t *sums = calloc(lanes, sizeof *sums);
     uint8_t *picture = malloc(lanes * (height / sample));
@@ -50,20 +51,26 @@ __attribute__((noinline)) static size_t sampled_picture(const uint8_t *pixels, u
             length += lanes;
         }
     }
-    size_t bytes = length + picture[0] - 7;
     free(sums);
-    free(picture);
-    return bytes;
+    return picture;
 }
 
 int main(void) {
     uint8_t *pixels = malloc((size_t)4 * WIDTH * HEIGHT);
     memset(pixels, 7, (size_t)4 * WIDTH * HEIGHT);
     for (uint32_t log = 0; log < 4; log++) {
-        double start = micros();
-        size_t bytes = 0;
-        for (int t = 0; t < TIMES; t++) bytes += sampled_picture(pixels, WIDTH, HEIGHT, 1u << log, 2 * log);
-        printf("sample %u: %.0f microseconds, %zu bytes\n", 1u << log, micros() - start, bytes);
+        double least = 1e18;
+        uint64_t sum = 0;
+        for (int t = 0; t < TIMES; t++) {
+            double start = micros();
+            uint8_t *picture = sampled_picture(pixels, WIDTH, HEIGHT, 1u << log, 2 * log);
+            double time = micros() - start;
+            if (time < least) least = time;
+            sum = 0;
+            for (size_t i = 0; i < (size_t)4 * (WIDTH >> log) * (HEIGHT >> log); i++) sum += picture[i];
+            free(picture);
+        }
+        printf("sample %u: %.0f microseconds, %llu\n", 1u << log, least, (unsigned long long)sum);
     }
     return 0;
 }
