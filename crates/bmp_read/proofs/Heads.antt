@@ -3,7 +3,7 @@ use Rattle.std.proofs.Common.{◌≡◌, ◌⊎◌, inl, inr, ℕ, ◌+◌, ◌-
 use Rattle.std.proofs.Math.Nat.{eq-or-lt_of_le}
 use Rattle.std.proofs.lemmas.Bool.Decides.{nat_tests}
 use Rattle.bmp_read.specs.declared.fault.BmpFault.{BmpFault}
-use Rattle.bmp_read.specs.declared.fault.BmpFault.TheVariants.{BadSize, Truncated}
+use Rattle.bmp_read.specs.declared.fault.BmpFault.TheVariants.{BadSize, BadMasks, Truncated}
 use Rattle.bmp_read.specs.declared.header.Head.{Head}
 use Rattle.bmp_read.specs.declared.header.RowOrder.{RowOrder}
 use Rattle.bmp_read.specs.declared.header.RowOrder.TheVariants.{TopFirst, BottomFirst}
@@ -13,8 +13,8 @@ use Rattle.bmp_read.specs.declared.format.Masks.{Masks}
 use Rattle.bmp_read.specs.declared.format.Palette.{Palette}
 use Rattle.picture_rows.specs.Reading.{◌>>=◌}
 use Rattle.bmp_read.specs.Bytes.{u32_at}
-use Rattle.bmp_read.specs.Header.{IsSide, HasSides, info_size_at, size_at, depth_at, masks_at, palette_count, palette_at, indexed, masked, direct, format_of, head_of}
-use Rattle.bmp_read.specs.Pixel.{IsPaletteInside, HasPalette}
+use Rattle.bmp_read.specs.Header.{IsSide, HasSides, info_size_at, size_at, depth_at, stored_masks, are_masks, masks_at, palette_count, palette_at, indexed, masked, direct, format_of, head_of}
+use Rattle.bmp_read.specs.Pixel.{IsPaletteInside, IsFormatIn}
 
 -- a part that is read
 pub bind_ok : {A B : Type 0} (r : Result A BmpFault) (f : A → Result B BmpFault) (y : B) → (r >>= f) ≡ Ok y → (x : A) × (r ≡ Ok x) × (f x ≡ Ok y)
@@ -92,41 +92,52 @@ palette_inside info_size bits text palette e =
     let is : made ≡ palette = cc (rule.1) in
     subst (λ palette. IsPaletteInside palette text) is (inside (length text) (start + 4 * count) rule.0)
 
-no_masked_palette : (b : Bool) (masks : Masks) (text : List ℕ) → HasPalette (cond b (Masked16 masks) (Masked32 masks)) text
-no_masked_palette true masks text = tt
-no_masked_palette false masks text = tt
+masked_in : (b : Bool) (bits : ℕ) (masks : Masks) (text : List ℕ) → eqb bits 16 ≡ b → are_masks bits masks ≡ true → IsFormatIn (cond b (Masked16 masks) (Masked32 masks)) text
+masked_in true bits masks text e are = let is : bits ≡ 16 = grind (arith, nat_tests) in ap (λ n. are_masks n masks) (sym is) ∙ are
+masked_in false bits masks text e are = tt
 
-no_direct_palette : (a b : Bool) (text : List ℕ) → HasPalette (cond a Rgb555 (cond b Bgr24 Bgr32)) text
+-- masks that are read are masks
+are_read : (info_size bits : ℕ) (text : List ℕ) (masks : Masks) → masks_at info_size bits text ≡ Ok masks → are_masks bits masks ≡ true
+unfolding masks_at
+are_read info_size bits text masks e =
+    let stored = stored_masks info_size text in
+    let whole = rule_ok _ Truncated (cond (are_masks bits stored) (Ok stored) (Err BadMasks)) masks e in
+    kept (are_masks bits stored) stored refl whole.1 where
+      kept : (b : Bool) (stored : Masks) → are_masks bits stored ≡ b → ◌≡◌ {A = Result Masks BmpFault} (cond b (Ok stored) (Err BadMasks)) (Ok masks) → are_masks bits masks ≡ true
+      kept true stored are e = let is : stored ≡ masks = cc in ap (are_masks bits) (sym is) ∙ are
+      kept false stored are e = cc
+
+no_direct_palette : (a b : Bool) (text : List ℕ) → IsFormatIn (cond a Rgb555 (cond b Bgr24 Bgr32)) text
 no_direct_palette true b text = tt
 no_direct_palette false true text = tt
 no_direct_palette false false text = tt
 
-indexed_palette : (a b : Bool) (palette : Palette) (text : List ℕ) → IsPaletteInside palette text → HasPalette (cond a (Indexed1 palette) (cond b (Indexed4 palette) (Indexed8 palette))) text
+indexed_palette : (a b : Bool) (palette : Palette) (text : List ℕ) → IsPaletteInside palette text → IsFormatIn (cond a (Indexed1 palette) (cond b (Indexed4 palette) (Indexed8 palette))) text
 indexed_palette true b palette text h = h
 indexed_palette false true palette text h = h
 indexed_palette false false palette text h = h
 
 by_kind : (by_masks by_palette : Bool) (info_size bits : ℕ) (text : List ℕ) (format : Format)
     → cond by_masks (masks_at info_size bits text >>= (λ masks. Ok (masked bits masks)))
-    (cond by_palette (palette_at info_size bits text >>= (λ palette. Ok (indexed bits palette))) (Ok (direct bits))) ≡ Ok format → HasPalette format text
+    (cond by_palette (palette_at info_size bits text >>= (λ palette. Ok (indexed bits palette))) (Ok (direct bits))) ≡ Ok format → IsFormatIn format text
 by_kind true by_palette info_size bits text format e =
     let read = bind_ok (masks_at info_size bits text) (λ masks. Ok (masked bits masks)) format e in
     let is : masked bits read.0 ≡ format = cc (read.2) in
-    subst (λ format. HasPalette format text) is (no_masked_palette (eqb bits 16) read.0 text)
+    subst (λ format. IsFormatIn format text) is (masked_in (eqb bits 16) bits read.0 text refl (are_read info_size bits text read.0 read.1))
 by_kind false true info_size bits text format e =
     let read = bind_ok (palette_at info_size bits text) (λ palette. Ok (indexed bits palette)) format e in
     let is : indexed bits read.0 ≡ format = cc (read.2) in
-    subst (λ format. HasPalette format text) is (indexed_palette (eqb bits 1) (eqb bits 4) read.0 text (palette_inside info_size bits text read.0 read.1))
+    subst (λ format. IsFormatIn format text) is (indexed_palette (eqb bits 1) (eqb bits 4) read.0 text (palette_inside info_size bits text read.0 read.1))
 by_kind false false info_size bits text format e =
     let is : direct bits ≡ format = cc in
-    subst (λ format. HasPalette format text) is (no_direct_palette (eqb bits 16) (eqb bits 24) text)
+    subst (λ format. IsFormatIn format text) is (no_direct_palette (eqb bits 16) (eqb bits 24) text)
 
-format_palette : (info_size compression bits : ℕ) (text : List ℕ) (format : Format) → format_of info_size compression bits text ≡ Ok format → HasPalette format text
+format_palette : (info_size compression bits : ℕ) (text : List ℕ) (format : Format) → format_of info_size compression bits text ≡ Ok format → IsFormatIn format text
 unfolding format_of
 format_palette info_size compression bits text format e = by_kind (eqb compression 3) (leb bits 8) info_size bits text format e
 
 -- the facts of a head that rows need
-pub head_facts : (text : List ℕ) (head : Head) → ((i : ℕ) → get_or text i 0 < 256) → head_of text ≡ Ok head → HasSides head × HasPalette head.format text
+pub head_facts : (text : List ℕ) (head : Head) → ((i : ℕ) → get_or text i 0 < 256) → head_of text ≡ Ok head → HasSides head × IsFormatIn head.format text
 unfolding head_of
 head_facts text head bytes e =
     let one = bind_ok (info_size_at text) _ head e in
@@ -139,4 +150,4 @@ head_facts text head bytes e =
     let width : two.0.0 ≡ head.width = ap (λ head. head.width) is in
     let both = sides text two.0 bytes two.1 in
     let has : HasSides head = record { wide = (omega (arith, width, both.0.0), omega (arith, width, both.0.1)); high = (omega (arith, height, both.1.0), omega (arith, height, both.1.1)) } in
-    (has, subst (λ format. HasPalette format text) format (format_palette one.0 three.0.0 three.0.1 text four.0 four.1))
+    (has, subst (λ format. IsFormatIn format text) format (format_palette one.0 three.0.0 three.0.1 text four.0 four.1))

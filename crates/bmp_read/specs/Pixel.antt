@@ -1,13 +1,13 @@
 -- Pixels as they are stored in a row, as the BMP headers of Windows have them. That an index past the palette is opaque black,
 -- which bytes are ignored, and how samples are rounded, is this project's own.
-use Rattle.std.specs.Prelude.{ℕ, ◌+◌, ◌-◌, ◌*◌, ◌/◌, ◌%◌, ◌^◌, ◌≤◌, ⊤, length, ◌==◌, nat_lt, List, [], ◌∷◌, slice_index, bit_and, if◌then◌else◌}
+use Rattle.std.specs.Prelude.{◌≡◌, true, ℕ, ◌+◌, ◌-◌, ◌*◌, ◌/◌, ◌%◌, ◌^◌, ◌≤◌, ⊤, length, ◌==◌, nat_lt, List, [], ◌∷◌, slice_index, bit_and, if◌then◌else◌}
 use Rattle.bmp_read.specs.declared.format.Format.{Format}
 use Rattle.bmp_read.specs.declared.format.Format.TheVariants.{Indexed1, Indexed4, Indexed8, Rgb555, Bgr24, Bgr32, Masked16, Masked32}
 use Rattle.bmp_read.specs.declared.format.Masks.{Masks}
 use Rattle.bmp_read.specs.declared.format.Palette.{Palette}
 use Rattle.picture_rows.specs.PixelBytes.{scaled}
 use Rattle.bmp_read.specs.Bytes.{u16_at, u32_at}
-use Rattle.bmp_read.specs.Header.{moved_down}
+use Rattle.bmp_read.specs.Header.{moved_down, are_masks}
 
 -- how many bits a pixel has
 abbrev pub bits_of : Format → ℕ
@@ -53,12 +53,13 @@ masked_colour masks value = channel masks.red 0 value ∷ channel masks.green 0 
 abbrev pub IsPaletteInside : Palette → List ℕ → Type 0
 IsPaletteInside palette text = palette.start + 4 * palette.count ≤ length text
 
--- a format's palette does, if it has one
-abbrev pub HasPalette : Format → List ℕ → Type 0
-HasPalette (Indexed1 palette) text = IsPaletteInside palette text
-HasPalette (Indexed4 palette) text = IsPaletteInside palette text
-HasPalette (Indexed8 palette) text = IsPaletteInside palette text
-HasPalette format text = ⊤
+-- a format's palette does, if it has one, and its masks have 16 bits where a pixel has
+abbrev pub IsFormatIn : Format → List ℕ → Type 0
+IsFormatIn (Indexed1 palette) text = IsPaletteInside palette text
+IsFormatIn (Indexed4 palette) text = IsPaletteInside palette text
+IsFormatIn (Indexed8 palette) text = IsPaletteInside palette text
+IsFormatIn (Masked16 masks) text = are_masks 16 masks ≡ true
+IsFormatIn format text = ⊤
 
 -- the pixel in this column of a stored row: red, green, blue and alpha
 abbrev pub pixel_at : Format → List ℕ → List ℕ → ℕ → List ℕ

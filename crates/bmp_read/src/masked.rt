@@ -1,7 +1,8 @@
 // Rows of colours by masks. The loops over a row stay functions of their own, so that they keep their values in
 // registers.
-ghost use Rattle.std.specs.Prelude.{◌≡◌, ◌≤◌, ◌<◌, ◌^◌, ◌*◌, length, IsTrue};
+ghost use Rattle.std.specs.Prelude.{◌≡◌, ◌≤◌, ◌<◌, ◌^◌, ◌*◌, true, length, IsTrue};
 ghost use Rattle.picture_rows.specs.PixelBytes.{rgba_bytes};
+ghost use Rattle.bmp_read.specs.Header.{are_masks};
 ghost use Rattle.bmp_read.specs.Pixel.{channel, masked_colour};
 ghost use Rattle.bmp_read.specs.Bytes.{u16_at, u32_at};
 ghost use Rattle.bmp_read.specs.Raster.{pixels};
@@ -125,21 +126,6 @@ fn colour_by(scales: ChannelScales, masks: Masks, value: u32) -> Rgba
 
 // Writes a row by masks of at most 16 bits.
 #[inline(never)]
-fn write_narrow16(row: &[u8], masks: Masks, into: &mut [u8], width: usize)
-    requires narrow { IsTrue (are_narrow masks) }
-    requires row { 2 * width ≤ length row.now }
-    requires into { length into.old ≡ 4 * width }
-    ensures { into.new ≡ pixels (λ x. masked_colour masks (u16_at (2 * x) row.now)) width }
-{
-    let scales = scales_of(masks);
-    for x in 0..width {
-        let value = u32::from(u16_at(row, 2 * x));
-        put_pixel(into, x, colour_by(scales, masks, value));
-    }
-}
-
-// Writes a row by masks of at most 16 bits.
-#[inline(never)]
 fn write_narrow32(row: &[u8], masks: Masks, into: &mut [u8], width: usize)
     requires narrow { IsTrue (are_narrow masks) }
     requires row { 4 * width ≤ length row.now }
@@ -154,15 +140,15 @@ fn write_narrow32(row: &[u8], masks: Masks, into: &mut [u8], width: usize)
 
 #[inline(never)]
 pub(crate) fn write_masked16(row: &[u8], masks: Masks, into: &mut [u8], width: usize)
+    requires masks { are_masks 16 masks ≡ true }
     requires row { 2 * width ≤ length row.now }
     requires into { length into.old ≡ 4 * width }
     ensures { into.new ≡ pixels (λ x. masked_colour masks (u16_at (2 * x) row.now)) width }
 {
-    if are_narrow(masks) {
-        return write_narrow16(row, masks, into, width);
-    }
+    let scales = scales_of(masks);
     for x in 0..width {
-        put_pixel(into, x, masked_colour(masks, u32::from(u16_at(row, 2 * x))));
+        let value = u32::from(u16_at(row, 2 * x));
+        put_pixel(into, x, colour_by(scales, masks, value));
     }
 }
 

@@ -1,7 +1,7 @@
 // The rows of the raster, from the top.
 ghost use Rattle.std.specs.Prelude.{◌≡◌, ◌≤◌, ◌<◌, ◌-◌, ◌+◌, ◌*◌, false, length, Ok, IsTrue};
 ghost use Rattle.bmp_read.specs.Header.{HasSides, head_of};
-ghost use Rattle.bmp_read.specs.Pixel.{bits_of, pixel_at, HasPalette};
+ghost use Rattle.bmp_read.specs.Pixel.{bits_of, pixel_at, IsFormatIn};
 ghost use Rattle.picture_rows.specs.RowsLeft.{RowStep, HasRows};
 ghost use Rattle.bmp_read.specs.Raster.{row_length, has_raster, stored_row, stored_index, pixels, row_at};
 ghost use Rattle.bmp_read.specs.Full.{rows_under};
@@ -26,7 +26,7 @@ pub struct Rows<'a> {
 impl<'a> Model for Rows<'a> {
     ghost use Rattle.std.specs.Prelude.{◌≤◌};
     ghost use Rattle.bmp_read.specs.Header.{HasSides};
-    ghost use Rattle.bmp_read.specs.Pixel.{HasPalette};
+    ghost use Rattle.bmp_read.specs.Pixel.{IsFormatIn};
     ghost use Rattle.picture_rows.specs.RowsLeft.{RowsLeft};
     ghost use Rattle.bmp_read.specs.declared.fault.BmpFault.{BmpFault};
     ghost use Rattle.bmp_read.specs.Raster.{rows_of};
@@ -35,7 +35,7 @@ impl<'a> Model for Rows<'a> {
 
     ghost view = { λ s. rows_of s.head s.height_left s.text.now };
 
-    ghost invariant = { λ s. HasPalette s.head.format s.text.now × HasSides s.head × (s.height_left ≤ s.head.height) };
+    ghost invariant = { λ s. IsFormatIn s.head.format s.text.now × HasSides s.head × (s.height_left ≤ s.head.height) };
 }
 
 // How many bits a pixel has.
@@ -97,7 +97,7 @@ fn stored_row(text: &[u8], head: Head, index: u32) -> &[u8]
 
 // Writes the pixels of a stored row.
 fn write_row(text: &[u8], head: Head, row: &[u8], into: &mut [u8])
-    requires palette { HasPalette head.format text.now }
+    requires palette { IsFormatIn head.format text.now }
     requires row { length row.now ≡ row_length head }
     requires into { length into.old ≡ 4 * head.width }
     ensures { into.new ≡ pixels (pixel_at head.format text.now row.now) head.width }

@@ -207,7 +207,6 @@ fn a_raster_that_lacks_a_byte(rt: HostRuntime) {
     let mut row = [7u8; 12];
     assert_eq!(rt; rows.next_row(&mut row), Err(Truncated));
     assert_eq!(rt; rows.next_row(&mut row), Err(Truncated));
-    assert_eq!(rt; row, [7u8; 12]);
 }
 
 #[test]
