@@ -6,9 +6,9 @@ use Rattle.state_machine.specs.declared.entry.Entry.{Entry}
 use Rattle.state_machine.specs.declared.machine.Machine.{Ghosts}
 use Rattle.state_machine.specs.Histories.{own}
 use Rattle.state_machine.specs.Legal.{Leads, IsLegal, MayFollow}
-use Rattle.state_machine.specs.Laws.{StepsPart, StepsJoin, HistoriesGrow, HistoriesBegin, HistoriesEnd}
+use Rattle.state_machine.specs.Laws.{OwnEntriesAppend, StepsPart, StepsJoin, HistoriesGrow, HistoriesBegin, HistoriesEnd}
 
-pub own-append : {N : Type 0} (who : ℕ) (first second : List (Entry N)) → own who (first ++ second) ≡ own who first ++ own who second
+pub own-append : {N : Type 0} → OwnEntriesAppend N
 own-append who [] second = refl
 own-append who (e ∷ es) second = by_entry (e.by == who) (own-append who es second)
   where

@@ -1,8 +1,15 @@
 -- What holds of all histories of a machine.
-use Rattle.std.specs.Prelude.{◌≡◌, ◌⊎◌, List, [], ◌∷◌, ◌++◌}
+use Rattle.std.specs.Prelude.{◌≡◌, ◌⊎◌, ℕ, List, [], ◌∷◌, ◌++◌}
 use Rattle.state_machine.specs.declared.entry.Entry.{Entry}
 use Rattle.state_machine.specs.declared.machine.Machine.{Ghosts}
+use Rattle.state_machine.specs.Histories.{own}
 use Rattle.state_machine.specs.Legal.{Leads, MayFollow, IsLegal}
+
+-- a seat's own entries of two histories, one after the other, are those of the first and then those of the second
+abbrev pub OwnEntriesAppend : Type 0 → Type 0
+OwnEntriesAppend Note =
+    (who : ℕ) (first second : List (Entry Note))
+    → own who (first ++ second) ≡ own who first ++ own who second
 
 module _ {M Event Reply Note : Type 0} (machine : Ghosts M Event Reply Note) where
   -- steps, one after the other, lead through a world between them

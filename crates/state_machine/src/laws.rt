@@ -1,15 +1,13 @@
 // What holds of all histories. A function of this file does nothing: its contract is the law.
-ghost use Rattle.std.specs.Prelude.{◌≡◌, ℕ, List, [], ◌++◌};
-ghost use Rattle.state_machine.specs.declared.entry.Entry.{Entry};
-ghost use Rattle.state_machine.specs.Histories.{own};
+ghost use Rattle.std.specs.Prelude.{[]};
 ghost use Rattle.state_machine.specs.Legal.{IsLegal};
-ghost use Rattle.state_machine.specs.Laws.{HistoriesBegin, HistoriesEnd, HistoriesGrow, StepsJoin, StepsPart};
+ghost use Rattle.state_machine.specs.Laws.{HistoriesBegin, HistoriesEnd, HistoriesGrow, OwnEntriesAppend, StepsJoin, StepsPart};
 
 use crate::machine::Machine;
 
 /// A seat's own entries of two histories, one after the other, are those of the first and then those of the second.
 pub fn own_entries_append<N>()
-    ensures { (who : ℕ) (first second : List (Entry N)) → own who (first ++ second) ≡ own who first ++ own who second }
+    ensures { OwnEntriesAppend N }
 {}
 
 /// Steps, one after the other, lead through a world between them, and the other way round.

@@ -1,0 +1,4 @@
+-- Words of the proofs of this crate.
+pub mod Views
+pub mod Rule
+pub mod Steps
