@@ -1,0 +1,2 @@
+pub mod Sums
+pub use Rattle.adding_machine.specs.Sums.{Adding, addition, Adds, ZeroFirst, OneFirst}
