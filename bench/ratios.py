@@ -21,10 +21,10 @@ def times(words):
 
 
 def main():
-    for mode in sys.argv[1:] or ["rows", "samples", "bitmaps"]:
+    for mode in sys.argv[1:] or ["rows", "samples", "bitmaps", "turns"]:
         with tempfile.TemporaryDirectory() as folder:
             twin = os.path.join(folder, mode)
-            subprocess.run(["cc", "-O2", os.path.join(TOP, "bench", mode + ".c"), "-o", twin], check=True)
+            subprocess.run(["cc", "-O2", "-pthread", os.path.join(TOP, "bench", mode + ".c"), "-o", twin], check=True)
             ours, plain = [], []
             for _ in range(TURNS):
                 ours.append(times([PROGRAM, mode]))

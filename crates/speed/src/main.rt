@@ -6,18 +6,22 @@ mod bitmaps;
 mod rows;
 mod samples;
 mod timing;
+mod turns;
 
 use anyhow::Result;
 use std::alloc::Global;
 use std::env;
 use std::rt::Runtime;
+use std::sync::Wait;
+use std::thread::Threads;
 
 // Times what a mode names.
-fn time(rt: &impl Runtime, alloc: Global, mode: &str) -> Result<()> {
+fn time<R: Runtime + Threads + Wait + Sync>(rt: &R, alloc: Global, mode: &str) -> Result<()> {
     match mode {
         "rows" => rows::time(rt, alloc),
         "samples" => samples::time(rt, alloc),
         "bitmaps" => bitmaps::time(rt, alloc),
+        "turns" => turns::time(rt, alloc),
         _ => {
             println!(rt; "no such mode: {mode}")?;
             Ok(())

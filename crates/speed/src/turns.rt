@@ -1,13 +1,10 @@
-// Times calls at a turn, of one seat and of eight. Without the word `measure` it does nothing.
-#![tactic(auto)]
-
+// A million calls at a turn that adds, by one seat and by eight, each seat in a thread of its own.
 ghost use Rattle.std.specs.Prelude.{◌<◌, ◌≤◌};
 ghost use Rattle.turn_lock.specs.Turns.{IsSeatOf};
 
 use adding_machine::AddingMachine;
 use anyhow::Result;
 use std::alloc::{AllocError, Global};
-use std::env;
 use std::rt::Runtime;
 use std::sync::Wait;
 use std::thread::{Threads, for_each_mut};
@@ -33,12 +30,8 @@ fn add_often<R: Wait>(
     }
 }
 
-// The nanoseconds of a million calls by so many seats, each in a thread of its own.
-fn nanoseconds<R: Runtime + Threads + Wait + Sync>(
-    rt: &R,
-    alloc: Global,
-    seats: u32,
-) -> Result<u128>
+// The microseconds of a million calls by so many seats.
+fn micros<R: Runtime + Threads + Wait + Sync>(rt: &R, alloc: Global, seats: u32) -> Result<u128>
     requires { (0 < seats) × (seats ≤ 64) }
 {
     let Ok((turn, mut seated)) = Turn::start(alloc, AddingMachine::new(alloc), seats) else {
@@ -51,28 +44,24 @@ fn nanoseconds<R: Runtime + Threads + Wait + Sync>(
         seats as usize,
         &|_, seat| { add_often(rt, &turn, seat, CALLS / seats) },
     );
-    Ok(start.elapsed(rt)?.as_nanos())
+    Ok(start.elapsed(rt)?.as_micros())
 }
 
-// The least time of a call, for one seat and for eight.
-fn measure<R: Runtime + Threads + Wait + Sync>(rt: &R, alloc: Global, seats: u32) -> Result<()>
+// Prints the least time of several runs, and the sum that the calls add up to.
+fn time_seats<R: Runtime + Threads + Wait + Sync>(rt: &R, alloc: Global, seats: u32) -> Result<()>
     requires { (0 < seats) × (seats ≤ 64) }
 {
     let mut least = u128::MAX;
     for _ in 0..TIMES {
-        least = least.min(nanoseconds(rt, alloc, seats)?);
+        least = least.min(micros(rt, alloc, seats)?);
     }
-    let picoseconds = least / u128::from(CALLS / 1000);
-    println!(rt; "{seats} seats: {picoseconds} picoseconds a call")?;
+    let sum = CALLS / seats * seats;
+    println!(rt; "{seats} callers: {least} microseconds, {sum}")?;
     Ok(())
 }
 
-fn main(rt: HostRuntime) -> Result<()> {
-    if env::args(&rt)?.count() < 2 {
-        return Ok(());
-    }
-    measure(&rt, rt.alloc(), 1)?;
-    measure(&rt, rt.alloc(), 2)?;
-    measure(&rt, rt.alloc(), 4)?;
-    measure(&rt, rt.alloc(), 8)
+/// Times one seat, and eight.
+pub fn time<R: Runtime + Threads + Wait + Sync>(rt: &R, alloc: Global) -> Result<()> {
+    time_seats(rt, alloc, 1)?;
+    time_seats(rt, alloc, 8)
 }

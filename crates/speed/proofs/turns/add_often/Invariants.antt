@@ -1,5 +1,5 @@
 use Rattle.turn_lock.specs.Turns.{IsSeatOf}
-use Rattle.turn_speed.proofs.add_often.Given as goal
+use Rattle.speed.proofs.turns.add_often.Given as goal
 
 abbrev pub invariant-loop : goal.invariant-loop
 invariant-loop g l = IsSeatOf l.turn l.seat

@@ -1,5 +1,5 @@
-// The work of crates/turn_speed in C: one thread and eight add to a sum behind a mutex.
-// cc -O2 -pthread bench/turn.c -o /tmp/turn && /tmp/turn
+// The mode `turns` of crates/speed in C: one thread and eight add to a sum behind a mutex, a million times in all.
+// cc -O2 -pthread bench/turns.c -o /tmp/turns && /tmp/turns
 #include <pthread.h>
 #include <stdint.h>
 #include <stdio.h>
@@ -28,24 +28,25 @@ static void *add_often(void *times) {
     return NULL;
 }
 
-static uint64_t nanoseconds(int threads) {
+static uint64_t micros(int threads) {
     pthread_t thread[MOST];
     uint32_t times = CALLS / threads;
     uint64_t start = now();
     for (int i = 0; i < threads; i++) pthread_create(&thread[i], NULL, add_often, &times);
     for (int i = 0; i < threads; i++) pthread_join(thread[i], NULL);
-    return now() - start;
+    return (now() - start) / 1000;
 }
 
 int main(void) {
-    int counts[] = {1, 2, 4, 8};
-    for (int i = 0; i < 4; i++) {
+    int counts[] = {1, 8};
+    for (int i = 0; i < 2; i++) {
         uint64_t least = UINT64_MAX;
         for (int j = 0; j < TIMES; j++) {
-            uint64_t time = nanoseconds(counts[i]);
+            sum = 0;
+            uint64_t time = micros(counts[i]);
             if (time < least) least = time;
         }
-        printf("%d threads: %llu picoseconds a call\n", counts[i], (unsigned long long)(least / (CALLS / 1000)));
+        printf("%d callers: %llu microseconds, %llu\n", counts[i], (unsigned long long)least, (unsigned long long)sum);
     }
     return 0;
 }
