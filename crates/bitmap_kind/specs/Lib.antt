@@ -1,3 +1,4 @@
 pub mod Stored
+pub mod StoredLaws
 pub mod Picture
 pub mod BitmapView

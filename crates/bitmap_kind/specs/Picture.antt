@@ -24,11 +24,15 @@ pub record BitmapValue : Type 0 where
 abbrev pub stored_size : ℕ → ℕ → Config → ℕ
 stored_size width height config = width * height * pixel_bytes config
 
--- Both sides are at least 1, and there are at most 2 ^ 25 pixels, a limit of this project.
+-- how many pixels a bitmap may have at most, a limit of this project
+abbrev pub pixel_limit : ℕ
+pixel_limit = 33554432
+
+-- Both sides are at least 1, and there are no more pixels than a bitmap may have.
 pub record IsSize (width height : ℕ) : Type 0 where
   pub wide : 1 ≤ width
   pub high : 1 ≤ height
-  pub most : width * height ≤ 33554432
+  pub most : width * height ≤ pixel_limit
 
 -- a size that a bitmap may have, whose stored bytes fit in an allocation
 pub record FitsIn (allocation width height : ℕ) (config : Config) : Type 0 where

@@ -233,6 +233,14 @@ impl Bitmap {
         pieces::write_pixels(&mut self.memory, at, self.config, rgba, width);
     }
 
+    /// Stores a whole picture, which is given as its stored bytes: rows from the top, pixels from the left.
+    pub fn put_bytes(&mut self, bytes: &[u8])
+        requires { length bytes.now ≡ stored_size self.old.picture.width self.old.picture.height self.old.picture.config }
+        ensures { self.new ≡ record self.old { picture = record self.old.picture { bytes = bytes.now } } }
+    {
+        pieces::write_bytes(&mut self.memory, 0, bytes);
+    }
+
     /// Copies one pixel from another bitmap.
     pub fn copy_pixel(&mut self, x: u32, y: u32, from: &Bitmap, fx: u32, fy: u32)
         requires column { x < self.old.picture.width }

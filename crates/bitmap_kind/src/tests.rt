@@ -1,6 +1,6 @@
 // Each call once, with ample memory.
 ghost use Rattle.std.specs.Prelude.{◌≡◌, ◌∷◌, [], IfOk};
-ghost use Rattle.bitmap_kind.specs.Picture.{stored_size};
+ghost use Rattle.bitmap_kind.specs.Picture.{pixel_limit, stored_size, IsSize};
 ghost use Rattle.bitmap_kind.specs.Stored.{stored};
 
 use crate::{Bitmap, Config};
@@ -15,6 +15,13 @@ fn worked_pixels()
     ensures rgb565 { stored Config.Rgb565 (255 ∷ 0 ∷ 0 ∷ 255 ∷ 0 ∷ 0 ∷ 255 ∷ 128 ∷ []) ≡ 0x00 ∷ 0xf8 ∷ 0x1f ∷ 0x00 ∷ [] }
     ensures parts { stored Config.Rgb565 (8 ∷ 4 ∷ 8 ∷ 0 ∷ []) ≡ 0x21 ∷ 0x08 ∷ [] }
     ensures alpha8 { stored Config.Alpha8 (255 ∷ 0 ∷ 0 ∷ 255 ∷ 0 ∷ 0 ∷ 255 ∷ 128 ∷ []) ≡ 255 ∷ 128 ∷ [] }
+{}
+
+// The limit on pixels: 8,192 by 4,096 are as many as a bitmap may have, and one pixel more is too many.
+fn worked_limits()
+    ensures at_the_limit { IsSize 8192 4096 }
+    ensures a_line { IsSize pixel_limit 1 }
+    ensures past_the_limit { IsSize 33554433 1 → ⊥ }
 {}
 
 // Red, and a blue of half opacity.
@@ -64,6 +71,15 @@ fn makes_and_reconfigures(rt: HostRuntime) -> Result<(), Fail> {
     assert_eq!(rt; bitmap.bytes(), [255, 0, 0, 255, 0, 0].as_slice());
     bitmap.erase();
     assert_eq!(rt; bitmap.bytes(), [0, 0, 0, 0, 0, 0].as_slice());
+    Ok(())
+}
+
+#[test]
+fn stores_whole_pictures(rt: HostRuntime) -> Result<(), Fail> {
+    let mut bitmap = row_of(rt.alloc(), Config::Rgb565)?;
+    bitmap.put_bytes(&[1, 2, 3, 4]);
+    assert_eq!(rt; bitmap.bytes(), [1, 2, 3, 4].as_slice());
+    assert_eq!(rt; bitmap.number(), 7);
     Ok(())
 }
 

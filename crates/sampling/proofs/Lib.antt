@@ -6,3 +6,4 @@ pub mod Tiles
 pub mod BlockLists
 pub mod Boxes
 pub mod Runs
+pub mod UnderOne

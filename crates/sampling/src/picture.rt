@@ -1,6 +1,7 @@
 // A whole picture, sampled row by row.
 ghost use Rattle.std.specs.Prelude.{◌≡◌, ℕ, ◌+◌, ◌*◌, ◌<◌, ◌≤◌, length, IfOk};
 ghost use Rattle.sampling.specs.Sampled.{sampled_picture};
+ghost use Rattle.sampling.specs.SampleLaws.{OneKeepsThePicture};
 
 use crate::box_rows::{BoxRows, sampled_side};
 use faults::NoMemory;
@@ -35,3 +36,8 @@ pub fn sampled_picture(
     }
     Ok(picture)
 }
+
+/// Under sample 1 the sampled picture is the picture. (A law: the call does nothing.)
+pub fn one_keeps_the_picture()
+    ensures { OneKeepsThePicture }
+{}

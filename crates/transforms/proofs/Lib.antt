@@ -5,3 +5,4 @@ pub mod SizeLemmas
 pub mod Lines
 pub mod Mirrors
 pub mod MoveSteps
+pub mod KeptSizes

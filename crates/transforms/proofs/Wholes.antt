@@ -6,13 +6,9 @@ use Rattle.std.specs.List.{flat_map, range_with_len}
 use Rattle.bitmap_kind.specs.declared.bitmaps.Config.{Config}
 use Rattle.bitmap_kind.specs.Stored.{pixel_bytes}
 use Rattle.bitmap_kind.specs.Picture.{Picture, BitmapValue, stored_size, pixel_place, pixel_at}
-use Rattle.bitmap_kind.specs.declared.bitmaps.Transform.{Transform}
-use Rattle.transforms.specs.Sizes.{source_column, source_row}
-use Rattle.transforms.specs.Boxes.{AreSides, IsWhole}
+use Rattle.transforms.specs.Boxes.{IsWhole}
 use Rattle.transforms.specs.Steps.{MovesColumns}
-use Rattle.transforms.specs.Moved.{pixels_by, moved}
-use Rattle.transforms.proofs.SizeLemmas.{size-same}
-use Rattle.transforms.proofs.Lines.{column-same, row-same}
+use Rattle.transforms.specs.Moved.{pixels_by}
 use Rattle.transforms.proofs.Pieces.{piece-piece, all_pieces, same_pieces}
 
 pub bytes_by_pixels : (p : Picture) → IsWhole p → pixels_by p.width p.height (λ x y. pixel_at p x y) ≡ p.bytes
@@ -37,17 +33,6 @@ bytes_by_pixels p whole =
 pub same_pixels : (width height : ℕ) (f g : ℕ → ℕ → List ℕ) → ((x y : ℕ) → x < width → y < height → f x y ≡ g x y) → pixels_by width height f ≡ pixels_by width height g
 same_pixels width height f g same =
     same_pieces _ _ 0 height (λ y low high. same_pieces (λ x. f x y) (λ x. g x y) 0 width (λ x low' high'. same x y (omega arith) (omega arith)))
-
--- a picture of the wanted size
-pub moved-same : (transform : Transform) (p : Picture) → AreSides p.width p.height → IsWhole p → moved p transform p.width p.height ≡ p
-moved-same transform p sides whole =
-    let w = p.width in
-    let h = p.height in
-    let pixel = λ (x : ℕ) (y : ℕ). pixel_at p (source_column w h transform w h x) (source_row w h transform w h y) in
-    let of_size : ℕ × ℕ → Picture = λ s. record { width = s.0; height = s.1; config = p.config; bytes = pixels_by s.0 s.1 pixel } in
-    let same = same_pixels w h pixel (λ x y. pixel_at p x y) (λ x y across down i. pixel_at p (column-same transform w h x sides.wide sides.high i) (row-same transform w h y sides.wide sides.high i)) in
-    ap of_size (size-same transform w h sides.wide sides.high)
-    ∙ ap (λ l. record { width = w; height = h; config = p.config; bytes = l }) (same ∙ bytes_by_pixels p whole)
 
 -- a target all of whose columns and rows are moved
 pub all_moved : (source : Picture) (old new : BitmapValue) (column row : ℕ → ℕ) → IsWhole old.picture → MovesColumns source old new 0 old.picture.width old.picture.height column row

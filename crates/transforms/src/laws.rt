@@ -40,6 +40,12 @@ pub fn places_are_mirrored()
     ensures rows { (transform : Transform) (w h W H x y : ℕ) → AreSides w h → AreSides W H → x + y + 1 ≡ (target_size w h transform W H).1 → AreMirrored (source_row w h transform W H x) (source_row w h transform W H y) h }
 {}
 
+/// A transform that keeps a picture's size keeps every pixel of it.
+pub fn kept_size_moves_nothing()
+    ensures { (transform : Transform) (picture : Picture) (W H : ℕ) → AreSides picture.width picture.height → IsWhole picture
+        → target_size picture.width picture.height transform W H ≡ (picture.width, picture.height) → moved picture transform W H ≡ picture }
+{}
+
 /// A picture that has the wanted size already stays as it is, under each transform.
 pub fn wanted_size_moves_nothing()
     ensures { (transform : Transform) (picture : Picture) → AreSides picture.width picture.height → IsWhole picture → moved picture transform picture.width picture.height ≡ picture }

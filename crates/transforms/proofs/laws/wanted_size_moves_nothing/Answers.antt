@@ -1,5 +1,6 @@
-use Rattle.transforms.proofs.Wholes.{moved-same}
+use Rattle.transforms.proofs.SizeLemmas.{size-same}
+use Rattle.transforms.proofs.KeptSizes.{moved_kept}
 use Rattle.transforms.proofs.laws.wanted_size_moves_nothing.Goals as goal
 
 pub returns : goal.returns
-returns c = λ transform picture sides whole. moved-same transform picture sides whole
+returns c transform picture sides whole = moved_kept transform picture picture.width picture.height sides whole (size-same transform picture.width picture.height sides.wide sides.high)
