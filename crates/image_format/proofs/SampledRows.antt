@@ -1,12 +1,21 @@
 -- A bitmap that is filled with the rows of a sampled picture.
-use Rattle.std.proofs.Common.{◌≡◌, ℕ, ◌+◌, true, false, List, [], ◌++◌, refl, sym, ap, subst, ◌∙◌, arith, append_assoc, zero-add}
+use Rattle.std.proofs.Common.{◌≡◌, ℕ, ◌+◌, true, false, List, [], ◌∷◌, ◌++◌, refl, sym, ap, subst, ◌∙◌, arith, append_assoc, zero-add}
 use Rattle.std.specs.List.{flat_map, range_with_len}
+use Rattle.std.proofs.lemmas.List.{append-nil, map-id}
+use Rattle.std.proofs.lemmas.List.Concat.{flat_map-append}
+use Rattle.std.proofs.lemmas.List.FromFn.{map-range_with_len_more}
 use Rattle.bitmap_kind.specs.Picture.{Picture}
 use Rattle.sampling.specs.Sampled.{sampled_side, sampled_row}
 use Rattle.sampling.specs.BoxValue.{BoxValue, Holds}
-use Rattle.sampling.proofs.BlockLists.{pieces_more}
-use Rattle.image_format.specs.Filled.{IsBitmap, IsFilled, IsFresh, IsSampled, PushesRow}
+use Rattle.image_format.specs.inside.Filled.{IsBitmap, IsFilled, IsFresh, IsSampled, PushesRow}
 use Rattle.image_format.proofs.Filling.{filled_none}
+
+-- one piece more of a list that is made of pieces
+pieces_more : (f : ℕ → List ℕ) (a n : ℕ) → flat_map f (range_with_len a (n + 1)) ≡ flat_map f (range_with_len a n) ++ f (a + n)
+pieces_more f a n =
+    let more : range_with_len a (n + 1) ≡ range_with_len a n ++ (a + n) ∷ [] =
+    sym (map-id (range_with_len a (n + 1))) ∙ map-range_with_len_more (λ x. x) a n (a + n) refl ∙ ap (λ xs. xs ++ (a + n) ∷ []) (map-id (range_with_len a n)) in
+    ap (flat_map f) more ∙ flat_map-append f (range_with_len a n) ((a + n) ∷ []) ∙ ap (λ xs. flat_map f (range_with_len a n) ++ xs) (append-nil (f (a + n)))
 
 -- the first rows of the sampled picture
 abbrev pub first_rows : BoxValue → List ℕ → ℕ → List ℕ

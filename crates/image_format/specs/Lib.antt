@@ -1,5 +1,5 @@
 pub mod Pictures
-pub mod CodeTypes
-pub mod PictureRows
-pub mod Planning
-pub mod Filled
+pub mod Content
+pub mod RawForm
+pub mod Answers
+pub mod inside

@@ -14,3 +14,25 @@ pub enum Refusal {
     /// The source, or what would be shown of it, is beyond the limits on sides and pixels.
     TooLarge,
 }
+
+impl From<PpmFault> for Refusal {
+    ghost use Rattle.std.specs.Prelude.{◌≡◌};
+    ghost use Rattle.image_format.specs.declared.refusal.Refusal.TheVariants as refusals;
+
+    ghost from_gives = { λ fault refusal. refusal ≡ refusals.Ppm fault };
+
+    fn from(fault: PpmFault) -> Refusal {
+        Refusal::Ppm(fault)
+    }
+}
+
+impl From<BmpFault> for Refusal {
+    ghost use Rattle.std.specs.Prelude.{◌≡◌};
+    ghost use Rattle.image_format.specs.declared.refusal.Refusal.TheVariants as refusals;
+
+    ghost from_gives = { λ fault refusal. refusal ≡ refusals.Bmp fault };
+
+    fn from(fault: BmpFault) -> Refusal {
+        Refusal::Bmp(fault)
+    }
+}

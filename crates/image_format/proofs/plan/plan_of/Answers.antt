@@ -1,20 +1,19 @@
-use Rattle.std.proofs.Common.{◌≡◌, ℕ, false, sym, ap, ◌∙◌, arith}
-use Rattle.image_format.specs.declared.plan.Plan.{Plan}
+use Rattle.std.proofs.Common.{◌≡◌, ℕ, List, Ok, Err, Result, sym, ap, ◌∙◌}
+use Rattle.std.specs.Result.{IfOk}
+use Rattle.picture_rows.specs.Reading.{◌>>=◌}
 use Rattle.cache_key.specs.Key.{Key}
-use Rattle.image_format.specs.Pictures.{has_too_many_pixels}
-use Rattle.cache_key.specs.Key.{key_by}
-use Rattle.image_format.specs.Planning.{IsPlan}
-use Rattle.image_format.proofs.Planned.{not_too_large, plan_is}
+use Rattle.image_format.specs.declared.plan.Plan.{Plan}
+use Rattle.image_format.specs.declared.refusal.Refusal.{Refusal}
+use Rattle.image_format.specs.Pictures.{planned, plan_under, IsPlanOf}
 use Rattle.image_format.proofs.plan.plan_of.Goals as goal
 
-pub returns : goal.returns
-returns c =
-    let key : Key = key_by c.args.key.now in
-    let source : ℕ × ℕ = c.args.source in
-    let plan : Plan = record { sample = c.sample_for-sample.result; decoded = (c.sampled_side.result, c.sampled_side-2.result); target = c.target_size-target.result; config = key.config } in
-    let few : has_too_many_pixels source ≡ false = sym c.has_too_many_pixels.ensures ∙ c.if-has_too_many_pixels.false in
-    let few_shown : has_too_many_pixels plan.target ≡ false = sym c.has_too_many_pixels-2.ensures ∙ c.if-has_too_many_pixels-2.false in
-    let is : IsPlan plan source key =
-    plan_is plan source key (record { wide = c.requires.wide; high = c.requires.high }) (record { wide = omega arith; high = omega arith }) few
-    c.sample_for-sample.ensures (λ i. (c.sampled_side.ensures i, c.sampled_side-2.ensures i)) c.target_size-target.ensures (λ i. key.config) few_shown in
-    (not_too_large source key c.if-source-gt-MOST_SIDE.false c.if-source-gt-MOST_SIDE-2.false few (ap has_too_many_pixels (sym is.target) ∙ few_shown), is)
+-- what is planned is a plan of the text
+plan_of_text : (text : List ℕ) (key : Key) (result : Result Plan Refusal) → planned text key ≡ result → IfOk result (λ plan. IsPlanOf text plan)
+plan_of_text text key (Ok plan) is = record { key = key; is = is }
+plan_of_text text key (Err refusal) is = tt
+
+pub returns-clause-of_text : goal.returns-clause-of_text
+unfolding planned
+returns-clause-of_text c =
+    plan_of_text c.args.bytes.now c.args.key.now c.plan_under.result
+    (ap (λ (r : Result (ℕ × ℕ) Refusal). r >>= plan_under c.args.key.now) (sym c.source_size.ensures.size ∙ c.in_ok-source_size.was) ∙ sym c.plan_under.ensures.plan)

@@ -1,7 +1,8 @@
 use Rattle.std.proofs.Common.{◌+◌, ◌*◌, length, mul_comm, sym, ap, subst, ◌∙◌, Ok, arith, List, ℕ}
 use Rattle.bitmap_kind.specs.Picture.{BitmapValue}
-use Rattle.image_format.specs.PictureRows.{rows_by, RowStep}
-use Rattle.image_format.specs.Filled.{IsFilled}
+use Rattle.picture_rows.specs.RowsLeft.{RowStep}
+use Rattle.image_format.specs.inside.Rows.{rows_by}
+use Rattle.image_format.specs.inside.Filled.{IsFilled}
 use Rattle.image_format.proofs.Filling.{next_rest, rows_done, fills, keeps_twice}
 use Rattle.image_format.proofs.raster.put_rows.Goals as goal
 
@@ -9,7 +10,7 @@ pub rows-preserved : goal.rows-preserved
 rows-preserved c =
     let before = c.rows.invariant in
     let into = c.next_row.new.into in
-    let step = subst (λ b. RowStep (rows_by c.rows.rows) (Ok b) into (rows_by c.next_row.new.self)) c.in-Ok-true.field-0-test c.in-Ok-true.ensures.step in
+    let step = subst (λ b. RowStep (rows_by c.rows.rows) (Ok b) into (rows_by c.next_row.new.self)) c.if-branch.true c.in_ok-next_row.ensures in
     let next = next_rest (rows_by c.args.rows.now) (rows_by c.rows.rows) (rows_by c.next_row.new.self) c.rows.y into before.left step in
     record {
       left = next.0;
@@ -19,11 +20,11 @@ rows-preserved c =
       row = c.next_row.auto.into ∙ before.row;
     }
 
-pub returns-in-Ok-false-clause-pixels : goal.returns-in-Ok-false-clause-pixels
-returns-in-Ok-false-clause-pixels c =
+pub returns-clause-pixels : goal.returns-clause-pixels
+returns-clause-pixels c =
     let before = c.rows.invariant in
     let old = c.args.bitmap.now.picture in
-    let step = subst (λ b. RowStep (rows_by c.rows.rows) (Ok b) c.next_row.new.into (rows_by c.next_row.new.self)) c.in-Ok-false.field-0-test c.in-Ok-false.ensures.step in
+    let step = subst (λ b. RowStep (rows_by c.rows.rows) (Ok b) c.next_row.new.into (rows_by c.next_row.new.self)) c.if-branch.false c.in_ok-next_row.ensures in
     let done = rows_done old.height c.rows.y (rows_by c.args.rows.now) (rows_by c.rows.rows) c.requires.count before.left before.below step.0 step.1 in
     ap length (sym done.2)
     ∙ before.filled.size
@@ -31,9 +32,9 @@ returns-in-Ok-false-clause-pixels c =
     ∙ ap (λ (v : BitmapValue). 4 * (old.height * v.picture.width)) before.shape
     ∙ ap (λ n. 4 * n) (mul_comm old.height old.width)
 
-pub returns-in-Ok-false-clause-fills : goal.returns-in-Ok-false-clause-fills
-returns-in-Ok-false-clause-fills c =
+pub returns-clause-fills : goal.returns-clause-fills
+returns-clause-fills c =
     let before = c.rows.invariant in
-    let step = subst (λ b. RowStep (rows_by c.rows.rows) (Ok b) c.next_row.new.into (rows_by c.next_row.new.self)) c.in-Ok-false.field-0-test c.in-Ok-false.ensures.step in
+    let step = subst (λ b. RowStep (rows_by c.rows.rows) (Ok b) c.next_row.new.into (rows_by c.next_row.new.self)) c.if-branch.false c.in_ok-next_row.ensures in
     let done = rows_done c.args.bitmap.now.picture.height c.rows.y (rows_by c.args.rows.now) (rows_by c.rows.rows) c.requires.count before.left before.below step.0 step.1 in
     (done.0, fills c.args.bitmap.now c.rows.bitmap c.rows.y _ _ before.shape before.filled (done.1 ∙ sym (ap (λ (v : BitmapValue). v.picture.height) before.shape)) done.2)

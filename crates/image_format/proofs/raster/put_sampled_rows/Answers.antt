@@ -4,8 +4,9 @@ use Rattle.std.proofs.lemmas.List.{take-append-drop}
 use Rattle.std.proofs.lemmas.List.Folds.{concat-append}
 use Rattle.sampling.specs.BoxValue.{BoxValue}
 use Rattle.sampling.specs.Sampled.{sampled_side, sampled_picture}
-use Rattle.image_format.specs.PictureRows.{rows_by, RowStep}
-use Rattle.image_format.specs.Filled.{IsSampled}
+use Rattle.picture_rows.specs.RowsLeft.{RowStep}
+use Rattle.image_format.specs.inside.Rows.{rows_by}
+use Rattle.image_format.specs.inside.Filled.{IsSampled}
 use Rattle.image_format.proofs.Filling.{rest_of, next_rest, rows_done, fills, keeps_twice, few_rows}
 use Rattle.image_format.proofs.SampledRows.{sampled_none, first_rows}
 use Rattle.image_format.proofs.raster.put_sampled_rows.Goals as goal
@@ -23,7 +24,7 @@ rows-init c =
       given = sym fresh.given;
       shape = refl;
       sampled = subst (λ (n : ℕ). IsSampled boxes picture (concat (take n all.rows)) (concat (drop n all.rows))) (sym fresh.pushed)
-          (sampled_none boxes picture (concat all.rows) fresh c.requires.bitmap c.requires.wide c.requires.high);
+          (sampled_none boxes picture (concat all.rows) fresh c.is_whole.ensures c.requires.wide c.requires.high);
       row = c.requires.row;
     }
 
@@ -33,7 +34,7 @@ overflow_add-y c =
     let all = rows_by c.args.rows.now in
     let into = c.next_row.new.into in
     let put = c.put_sampled_row-y in
-    let step = subst (λ b. RowStep (rows_by c.rows.rows) (Ok b) into (rows_by c.next_row.new.self)) c.in-Ok-true.field-0-test c.in-Ok-true.ensures.step in
+    let step = subst (λ b. RowStep (rows_by c.rows.rows) (Ok b) into (rows_by c.next_row.new.self)) c.if-branch.true c.in_ok-next_row.ensures in
     let next = next_rest all (rows_by c.rows.rows) (rows_by c.next_row.new.self) c.rows.boxes.pushed into before.left step in
     let sampled = put.ensures.sampled (concat (take c.rows.boxes.pushed all.rows)) (concat (drop (c.rows.boxes.pushed + 1) all.rows))
     (subst (λ (l : List ℕ). IsSampled c.rows.boxes c.rows.bitmap.picture (concat (take c.rows.boxes.pushed all.rows)) l) next.3 before.sampled) in
@@ -47,7 +48,7 @@ rows-preserved c =
     let all = rows_by c.args.rows.now in
     let into = c.next_row.new.into in
     let put = c.put_sampled_row-y in
-    let step = subst (λ b. RowStep (rows_by c.rows.rows) (Ok b) into (rows_by c.next_row.new.self)) c.in-Ok-true.field-0-test c.in-Ok-true.ensures.step in
+    let step = subst (λ b. RowStep (rows_by c.rows.rows) (Ok b) into (rows_by c.next_row.new.self)) c.if-branch.true c.in_ok-next_row.ensures in
     let next = next_rest all (rows_by c.rows.rows) (rows_by c.next_row.new.self) c.rows.boxes.pushed into before.left step in
     let sampled = put.ensures.sampled (concat (take c.rows.boxes.pushed all.rows)) (concat (drop (c.rows.boxes.pushed + 1) all.rows))
     (subst (λ (l : List ℕ). IsSampled c.rows.boxes c.rows.bitmap.picture (concat (take c.rows.boxes.pushed all.rows)) l) next.3 before.sampled) in
@@ -68,13 +69,13 @@ rows-preserved c =
       row = put.auto.row ∙ c.next_row.auto.into ∙ before.row;
     }
 
-pub returns-in-Ok-false : goal.returns-in-Ok-false
-returns-in-Ok-false c =
+pub returns-clause-fills : goal.returns-clause-fills
+returns-clause-fills c =
     let before = c.rows.invariant in
     let all = rows_by c.args.rows.now in
     let boxes = c.rows.boxes in
     let n = c.rows.boxes.pushed in
-    let step = subst (λ b. RowStep (rows_by c.rows.rows) (Ok b) c.next_row.new.into (rows_by c.next_row.new.self)) c.in-Ok-false.field-0-test c.in-Ok-false.ensures.step in
+    let step = subst (λ b. RowStep (rows_by c.rows.rows) (Ok b) c.next_row.new.into (rows_by c.next_row.new.self)) c.if-branch.false c.in_ok-next_row.ensures in
     let done = rows_done c.args.boxes.now.height n all (rows_by c.rows.rows) c.requires.count before.left before.below step.0 step.1 in
     let wide : boxes.width ≡ c.args.boxes.now.width = ap (λ (b : BoxValue). b.width) before.boxes in
     let high : boxes.height ≡ c.args.boxes.now.height = ap (λ (b : BoxValue). b.height) before.boxes in

@@ -1,7 +1,8 @@
 use Rattle.std.proofs.Common.{◌≡◌, ◌≤◌, ◌*◌, length, take, drop}
 use Rattle.std.specs.List.{concat}
-use Rattle.image_format.specs.PictureRows.{rows_by}
-use Rattle.image_format.specs.Filled.{IsSampled, KeepsShape}
+use Rattle.image_format.specs.inside.Rows.{rows_by}
+use Rattle.image_format.specs.inside.Filled.{IsSampled}
+use Rattle.image_format.specs.Answers.{KeepsShape}
 use Rattle.image_format.proofs.Filling.{rest_of}
 use Rattle.image_format.proofs.raster.put_sampled_rows.Given as goal
 

@@ -1,13 +1,12 @@
--- Bitmaps that are filled row by row, from the top. It is this project's own, and only this crate's calls say it.
+-- Bitmaps that are filled row by row, from the top. Only this crate's calls say it.
 use Rattle.std.specs.Prelude.{◌≡◌, ℕ, ◌+◌, ◌*◌, ◌≤◌, false, List, [], ◌++◌, length, take, Ok, Err, Some, None, Result}
 use Rattle.std.specs.List.{flat_map, range_with_len}
 use Rattle.bitmap_kind.specs.Stored.{pixel_bytes, stored}
-use Rattle.bitmap_kind.specs.Picture.{Picture, BitmapValue, IsSize, stored_size}
+use Rattle.bitmap_kind.specs.Picture.{Picture, IsSize, stored_size}
 use Rattle.sampling.specs.Sampled.{sampled_side, sampled_row}
 use Rattle.sampling.specs.BoxValue.{BoxValue, Holds}
-use Rattle.image_format.specs.declared.refusal.Refusal as code_refusal
-use Rattle.image_format.specs.CodeTypes.{refusal_by}
-use Rattle.image_format.specs.PictureRows.{RowsLeft}
+use Rattle.picture_rows.specs.RowsLeft.{RowsLeft}
+use Rattle.image_format.specs.declared.refusal.Refusal.{Refusal}
 
 -- what the picture of each bitmap is: of a size that a bitmap may have, and with all its bytes
 pub record IsBitmap (picture : Picture) : Type 0 where
@@ -19,16 +18,12 @@ pub record IsFilled (picture : Picture) (rows : ℕ) (pixels : List ℕ) : Type 
   pub bitmap : IsBitmap picture
   pub within : rows ≤ picture.height
   pub size : length pixels ≡ 4 * (rows * picture.width)
-  pub front : take (rows * (picture.width * pixel_bytes picture.config)) picture.bytes ≡ stored picture.config pixels
+  pub prefix : take (rows * (picture.width * pixel_bytes picture.config)) picture.bytes ≡ stored picture.config pixels
 
--- Nothing but the stored bytes has changed.
-abbrev pub KeepsShape : BitmapValue → BitmapValue → Type 0
-KeepsShape old new = new ≡ record old { picture = record old.picture { bytes = new.picture.bytes } }
-
--- All rows could be read, and the bitmap is these pixels; or the refusal came that stands behind them.
-abbrev pub Fills : {A : Type 0} → Result A code_refusal.Refusal → RowsLeft → List ℕ → BitmapValue → BitmapValue → Type 0
-Fills (Ok done) rows pixels old new = (rows.refusal ≡ None) × (new.picture ≡ record old.picture { bytes = stored old.picture.config pixels })
-Fills (Err refusal) rows pixels old new = rows.refusal ≡ Some (refusal_by refusal)
+-- All rows could be read, and the bitmap's picture is these pixels; or the refusal came that stands after them.
+abbrev pub Fills : {A : Type 0} → Result A Refusal → RowsLeft Refusal → List ℕ → Picture → Picture → Type 0
+Fills (Ok done) rows pixels old new = (rows.fault ≡ None) × (new ≡ record old { bytes = stored old.config pixels })
+Fills (Err refusal) rows pixels old new = rows.fault ≡ Some refusal
 
 -- ---- rows that are sampled
 
@@ -41,7 +36,8 @@ pub record IsFresh (boxes : BoxValue) : Type 0 where
   pub open_ : boxes.full ≡ false
   pub holds : Holds boxes []
 
--- The rows pushed so far are these pixels, and `rest` are those to come. The rows of the sampled picture that were given are the first ones of the bitmap's picture, which has the sampled size.
+-- The rows pushed so far are these pixels, and `rest` are those to come. The rows of the sampled picture that were given
+-- are the first ones of the bitmap's picture, which has the sampled size.
 pub record IsSampled (boxes : BoxValue) (picture : Picture) (pixels rest : List ℕ) : Type 0 where
   pub wide : picture.width ≡ sampled_side boxes.width boxes.sample
   pub high : picture.height ≡ sampled_side boxes.height boxes.sample
