@@ -11,7 +11,8 @@ use Rattle.glide_run.specs.declared.run.Stop.{Stop}
 use Rattle.glide_run.specs.declared.run.Ended.{Ended}
 use Rattle.cache_key.specs.Key.{Key}
 use Rattle.glide_run.specs.Script.{Command, Nothing, Bad, Load, Dump, Show}
-use Rattle.image_format.specs.Pictures.{Refusal, picture_of}
+use Rattle.image_format.specs.declared.refusal.Refusal.{Refusal}
+use Rattle.image_format.specs.Pictures.{picture_of}
 use Rattle.glide_run.specs.Views.{State, Running, Complete, Failed, Seen, decoded, fetched, names_of, has_name, with_name, named, put_view}
 use Rattle.glide_run.specs.Printed.{Form, Pixels, Digest, PrintedLine, lines_as, lines_text, run_text, says_failed, says_failed_source, blames_source}
 use Rattle.glide_run.specs.Walk.{bad_line_from, bad_line, walk, output, status_of, IsLicensed}

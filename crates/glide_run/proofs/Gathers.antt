@@ -14,11 +14,6 @@ use Rattle.glide_run.specs.Views.{State, Running, Complete, Failed, Seen, names_
 use Rattle.glide_run.specs.Effects.{Gains}
 use Rattle.glide_run.specs.Run.{SettlesAt, Settles, Gathers, running_at, running_in}
 use Rattle.bitmap_kind.specs.Picture.{Picture}
-use Rattle.image_format.specs.declared.refusal.Refusal as code_refusal
-use Rattle.image_format.specs.declared.decoder.DecodeFault.{DecodeFault}
-use Rattle.image_format.specs.declared.decoder.DecodeFault.TheVariants as decode_faults
-use Rattle.image_format.specs.Pictures.{Refusal}
-use Rattle.image_format.specs.CodeTypes.{refusal_by, Decodes}
 use Rattle.glide_run.specs.CodeTypes.{view_by, views_by}
 
 -- ---- failed fetches
@@ -121,6 +116,3 @@ pub told_text : {V : Type 0} (bytes : V → List ℕ) (content : Option Contents
     → IfSome content (λ texts. Some (bytes v) ≡ get texts b)
 told_text bytes None a b found v e same answer = tt
 told_text bytes (Some texts) a b found v e same answer = ap (option_map bytes) (sym e) ∙ answer ∙ ap (get texts) same
-
-pub refused_by : (fault : DecodeFault) (refusal : code_refusal.Refusal) (picture : Result Picture Refusal) → fault ≡ decode_faults.Refused refusal → Decodes (Err fault) picture → picture ≡ Err (refusal_by refusal)
-refused_by fault refusal picture e p = subst (λ f. Decodes (Err f) picture) e p

@@ -8,7 +8,8 @@ use Rattle.bitmap_kind.specs.Picture.{Picture}
 use Rattle.outside.specs.Content.{Address, Contents}
 use Rattle.cache_key.specs.Key.{Key}
 use Rattle.glide_run.specs.Script.{Command, Nothing, Load, Dump}
-use Rattle.image_format.specs.Pictures.{Refusal, picture_of}
+use Rattle.image_format.specs.declared.refusal.Refusal.{Refusal}
+use Rattle.image_format.specs.Pictures.{picture_of}
 use Rattle.glide_run.specs.Views.{State, Running, Complete, Failed, Seen, decoded, fetched, names_of, has_name, named, put_view}
 use Rattle.glide_run.specs.Printed.{Pixels, line_as, lines_as, line_text, lines_text}
 use Rattle.glide_run.specs.Effects.{Gains, WritesFront}

@@ -10,7 +10,8 @@ use Rattle.outside.specs.Content.{Address, Contents}
 use Rattle.bitmap_kind.specs.Picture.{Picture}
 use Rattle.cache_key.specs.Key.{Key}
 use Rattle.glide_run.specs.Script.{Command, Nothing, Bad, Load, Dump, Show}
-use Rattle.image_format.specs.Pictures.{Refusal, picture_of}
+use Rattle.image_format.specs.declared.refusal.Refusal.{Refusal}
+use Rattle.image_format.specs.Pictures.{picture_of}
 use Rattle.glide_run.specs.Views.{State, Running, Complete, Failed, View, Seen, seen, seen_state, address_of, decoded, fetched, names_of, has_name, can_name, named, put_view}
 use Rattle.glide_run.specs.Printed.{Pixels, Digest, PrintedLine, lines_as}
 use Rattle.glide_run.specs.Walk.{first_mark, other_marks, settled_state, settled, gathered, walk, same_address, same_begin, marked_begins, distinct, begins_at}

@@ -1,9 +1,6 @@
 -- The code's types, as the definitions see them. It is this project's own. What moves to another crate moves here alone.
 use Rattle.std.specs.Prelude.{List, map, ⊤}
-use Rattle.cache_key.specs.Key.{Key, key_by}
-use Rattle.image_format.specs.CodeTypes.{refusal_by}
-use Rattle.glide_run.specs.declared.causes.Cause as code_cause
-use Rattle.glide_run.specs.declared.causes.Cause.TheVariants as causes
+use Rattle.cache_key.specs.Key.{Key}
 use Rattle.glide_run.specs.declared.requests.Request.{Request}
 use Rattle.glide_run.specs.declared.script.Command as code_command
 use Rattle.glide_run.specs.declared.script.Command.TheVariants as commands
@@ -13,16 +10,8 @@ use Rattle.glide_run.specs.declared.views.View as code_view
 use Rattle.glide_run.specs.declared.printing.Form as code_form
 use Rattle.glide_run.specs.declared.printing.Form.TheVariants as forms
 use Rattle.glide_run.specs.Script.{Command, Nothing, Bad, Load, Dump, Show}
-use Rattle.glide_run.specs.Views.{Cause, Missing, Refused, Source, Memory, Uncached, State, Running, Complete, Failed, Seen}
+use Rattle.glide_run.specs.Views.{State, Running, Complete, Failed, Seen}
 use Rattle.glide_run.specs.Printed.{Form, Pixels, Digest}
-
--- each of these maps one of the code's types: a cause
-abbrev pub cause_by : code_cause.Cause → Cause
-cause_by causes.Missing = Missing
-cause_by (causes.Refused refusal) = Refused (refusal_by refusal)
-cause_by causes.Source = Source
-cause_by causes.Memory = Memory
-cause_by causes.Uncached = Uncached
 
 -- the key of a request, whose texts are borrowed from a line
 abbrev pub request_key : Request → Key
@@ -41,11 +30,11 @@ command_by commands.Show = Show
 abbrev pub state_by : ViewState → State ⊤
 state_by states.Running = Running tt
 state_by (states.Complete bitmap) = Complete bitmap.picture
-state_by (states.Failed cause) = Failed (cause_by cause)
+state_by (states.Failed cause) = Failed cause
 
 -- a view
 abbrev pub view_by : code_view.View → Seen
-view_by view = record { name = view.name; key = key_by view.key; state = state_by view.state }
+view_by view = record { name = view.name; key = view.key; state = state_by view.state }
 
 -- views in their order
 abbrev pub views_by : List code_view.View → List Seen

@@ -7,22 +7,41 @@ use Rattle.sha2.specs.Sha256.{sha256}
 use Rattle.bitmap_kind.specs.declared.bitmaps.Config.{Config}
 use Rattle.bitmap_kind.specs.declared.bitmaps.Config.TheVariants.{Argb8888, Rgb565, Alpha8}
 use Rattle.bitmap_kind.specs.Picture.{Picture}
-use Rattle.image_format.specs.Pictures.{Refusal, Unknown, BadNumber, BadSize, BadMaximum, SampleAbove, Truncated, BadHeader, Compressed, BadDepth, BadMasks, TooLarge}
-use Rattle.glide_run.specs.Views.{Cause, Missing, Refused, Source, Memory, Uncached, State, Running, Complete, Failed, Seen}
+use Rattle.ppm_read.specs.declared.fault.PpmFault.{PpmFault}
+use Rattle.ppm_read.specs.declared.fault.PpmFault.TheVariants as ppm_faults
+use Rattle.bmp_read.specs.declared.fault.BmpFault.{BmpFault}
+use Rattle.bmp_read.specs.declared.fault.BmpFault.TheVariants as bmp_faults
+use Rattle.image_format.specs.declared.refusal.Refusal.{Refusal}
+use Rattle.image_format.specs.declared.refusal.Refusal.TheVariants as refusals
+use Rattle.glide_run.specs.declared.causes.Cause.{Cause}
+use Rattle.glide_run.specs.declared.causes.Cause.TheVariants.{Missing, Refused, Source, Memory, Uncached}
+use Rattle.glide_run.specs.Views.{State, Running, Complete, Failed, Seen}
 
--- why a text has no picture
+-- why a text has no picture, in the words of the Netpbm reader's faults
+abbrev pub ppm_text : PpmFault → List ℕ
+ppm_text ppm_faults.BadMagic = codes "unknown"
+ppm_text ppm_faults.BadNumber = codes "bad-number"
+ppm_text ppm_faults.BadSize = codes "bad-size"
+ppm_text ppm_faults.BadMaximum = codes "bad-maximum"
+ppm_text ppm_faults.SampleAbove = codes "sample-above"
+ppm_text ppm_faults.Truncated = codes "truncated"
+
+-- and in those of the reader of Windows bitmaps
+abbrev pub bmp_text : BmpFault → List ℕ
+bmp_text bmp_faults.BadMagic = codes "unknown"
+bmp_text bmp_faults.BadHeader = codes "bad-header"
+bmp_text bmp_faults.BadSize = codes "bad-size"
+bmp_text (bmp_faults.Compressed number) = codes "compressed " ++ decimal number
+bmp_text bmp_faults.BadDepth = codes "bad-depth"
+bmp_text bmp_faults.BadMasks = codes "bad-masks"
+bmp_text bmp_faults.Truncated = codes "truncated"
+
+-- why a text has no picture: faults of the two readers with one name have one word
 abbrev pub refusal_text : Refusal → List ℕ
-refusal_text Unknown = codes "unknown"
-refusal_text BadNumber = codes "bad-number"
-refusal_text BadSize = codes "bad-size"
-refusal_text BadMaximum = codes "bad-maximum"
-refusal_text SampleAbove = codes "sample-above"
-refusal_text Truncated = codes "truncated"
-refusal_text BadHeader = codes "bad-header"
-refusal_text (Compressed number) = codes "compressed " ++ decimal number
-refusal_text BadDepth = codes "bad-depth"
-refusal_text BadMasks = codes "bad-masks"
-refusal_text TooLarge = codes "too-large"
+refusal_text refusals.Unknown = codes "unknown"
+refusal_text (refusals.Ppm fault) = ppm_text fault
+refusal_text (refusals.Bmp fault) = bmp_text fault
+refusal_text refusals.TooLarge = codes "too-large"
 
 -- why a view failed
 abbrev pub cause_text : Cause → List ℕ

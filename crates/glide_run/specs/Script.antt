@@ -11,7 +11,7 @@ use Rattle.bitmap_kind.specs.declared.bitmaps.Transform.{Transform}
 use Rattle.bitmap_kind.specs.declared.bitmaps.Transform.TheVariants as transforms
 use Rattle.bitmap_kind.specs.declared.bitmaps.Rule.{Rule}
 use Rattle.bitmap_kind.specs.declared.bitmaps.Rule.TheVariants as rules
-use Rattle.cache_key.specs.Key.{Key}
+use Rattle.cache_key.specs.Key.{Key, url_limit, sig_limit, wanted_side_limit}
 
 -- What a line asks for. An empty line and a comment ask for nothing; a bad line is none of the forms.
 pub data Command : Type 0 where
@@ -61,13 +61,23 @@ word ws place = get_or ws place []
 abbrev pub is_name_byte : ℕ → Bool
 is_name_byte byte = is_ascii_alphanumeric byte || byte == 95 || byte == 45 || byte == 46
 
+-- the longest name of a view, the longest line without its ending, and the longest script, all in bytes
+abbrev pub name_limit : ℕ
+name_limit = 32
+
+abbrev pub line_limit : ℕ
+line_limit = 2048
+
+abbrev pub script_limit : ℕ
+script_limit = 1048576
+
 -- a view's name: 1 to 32 letters, digits, `_`, `-` and `.`
 abbrev pub is_name : List ℕ → Bool
-is_name word = not (length word == 0) && nat_le (length word) 32 && list_all is_name_byte word
+is_name word = not (length word == 0) && nat_le (length word) name_limit && list_all is_name_byte word
 
 -- up to five digits, the first of them not 0, that spell a number from 1 to 16,384
 abbrev pub is_side : List ℕ → Bool
-is_side word = list_all is_ascii_digit word && nat_le (length word) 5 && not (get_or word 0 48 == 48) && nat_lt 0 (digits_value 10 word) && nat_le (digits_value 10 word) 16384
+is_side word = list_all is_ascii_digit word && nat_le (length word) 5 && not (get_or word 0 48 == 48) && nat_lt 0 (digits_value 10 word) && nat_le (digits_value 10 word) wanted_side_limit
 
 -- a wanted side in pixels
 abbrev pub side : List ℕ → Option ℕ
@@ -95,7 +105,7 @@ rule_of ws = if length ws == 8 then Some rules.AtLeast else if length ws == 9 th
 
 -- a view's name, a url of at most 1,024 bytes and a signature of at most 64
 abbrev pub is_request : List ℕ → List ℕ → List ℕ → Bool
-is_request view url sig = is_name view && nat_le (length url) 1024 && nat_le (length sig) 64
+is_request view url sig = is_name view && nat_le (length url) url_limit && nat_le (length sig) sig_limit
 
 -- goes on with what a word names, if it names anything
 infixl 10 ◌>>=◌
@@ -145,7 +155,7 @@ is_comment other = false
 
 -- what a line asks for that has no carriage return at its end
 abbrev pub trimmed_command : List ℕ → Command
-trimmed_command line = if nat_lt 2048 (length line) then Bad else if is_comment (words line) then Nothing
+trimmed_command line = if nat_lt line_limit (length line) then Bad else if is_comment (words line) then Nothing
     else if list_all is_line_byte line then words_command (words line) else Bad
 
 -- what a line asks for, which may have a carriage return at its end and has at most 2,048 bytes without it
@@ -161,4 +171,4 @@ commands_within room text = if nat_le (length text) room then map line_command (
 
 -- what a script of at most 1,048,576 bytes asks for, line by line
 unfoldable pub commands : List ℕ → List Command
-commands script = commands_within 1048576 script
+commands script = commands_within script_limit script

@@ -5,15 +5,10 @@ use Rattle.std.specs.Str.{bytes_eq}
 use Rattle.outside.specs.Content.{Address}
 use Rattle.bitmap_kind.specs.Picture.{Picture}
 use Rattle.cache_key.specs.Key.{Key}
-use Rattle.image_format.specs.Pictures.{Refusal, picture_of}
-
--- why a view failed: the content has no such picture, its text is refused, a fetch failed, memory was wanting, or no cache had it
-pub data Cause : Type 0 where
-  Missing : Cause
-  Refused : (refusal : Refusal) → Cause
-  Source : Cause
-  Memory : Cause
-  Uncached : Cause
+use Rattle.glide_run.specs.declared.causes.Cause.{Cause}
+use Rattle.glide_run.specs.declared.causes.Cause.TheVariants.{Missing, Refused}
+use Rattle.image_format.specs.declared.refusal.Refusal.{Refusal}
+use Rattle.image_format.specs.Pictures.{picture_of}
 
 -- A request runs, is complete with its picture, or failed. Something may be noted of one that runs.
 pub data State (N : Type 0) : Type 0 where
@@ -68,9 +63,13 @@ abbrev pub has_name : List ℕ → List (List ℕ) → Bool
 has_name name [] = false
 has_name name (other ∷ names) = bytes_eq other name || has_name name names
 
--- A view that is new can be made while there are fewer than 4,096.
+-- how many views there may be
+abbrev pub view_limit : ℕ
+view_limit = 4096
+
+-- A view that is new can be made while there are fewer.
 abbrev pub can_name : List ℕ → List (List ℕ) → Bool
-can_name name names = has_name name names || nat_lt (length names) 4096
+can_name name names = has_name name names || nat_lt (length names) view_limit
 
 -- the names after a load in this view
 abbrev pub with_name : List ℕ → List (List ℕ) → List (List ℕ)

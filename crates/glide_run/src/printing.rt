@@ -4,11 +4,9 @@ ghost use Rattle.std.specs.Fmt.{decimal};
 ghost use Rattle.hex.specs.Hex.{encode_lower};
 ghost use Rattle.sha2.specs.Sha256.{sha256};
 ghost use Rattle.outside.specs.Causes.{HasCause};
-ghost use Rattle.glide_run.specs.Printed.{refusal_text, cause_text, config_word, picture_head, state_head, state_picture, line_as, lines_as, line_text, lines_text};
+ghost use Rattle.glide_run.specs.Printed.{ppm_text, bmp_text, refusal_text, cause_text, config_word, picture_head, state_head, state_picture, line_as, lines_as, line_text, lines_text};
 ghost use Rattle.glide_run.specs.Effects.{WritesFront};
-ghost use Rattle.image_format.specs.Pictures.{ppm_refusal, bmp_refusal};
-ghost use Rattle.image_format.specs.CodeTypes.{refusal_by};
-ghost use Rattle.glide_run.specs.CodeTypes.{cause_by, state_by, view_by, views_by, form_by};
+ghost use Rattle.glide_run.specs.CodeTypes.{state_by, view_by, views_by, form_by};
 
 use crate::causes::Cause;
 use crate::views::{View, ViewState};
@@ -104,7 +102,7 @@ pub fn write_digest<W: Sink>(out: &mut W, bytes: &[u8]) -> Result<(), WriteFault
 
 // What a line says of a view whose text is refused by the Netpbm reader.
 fn ppm_line(fault: PpmFault) -> &'static [u8]
-    ensures { result.now ≡ codes "failed refused " ++ refusal_text (ppm_refusal fault) }
+    ensures { result.now ≡ codes "failed refused " ++ ppm_text fault }
 {
     match fault {
         PpmFault::BadMagic => b"failed refused unknown",
@@ -125,7 +123,7 @@ fn compressed_line(alloc: Global, number: u32) -> Result<Vec<u8>, AllocError>
 
 // What a line says of a view whose text is refused by the reader of Windows bitmaps.
 fn bmp_line(alloc: Global, fault: BmpFault) -> Result<Vec<u8>, AllocError>
-    ensures { IfOk result (λ line. line.items ≡ codes "failed refused " ++ refusal_text (bmp_refusal fault)) }
+    ensures { IfOk result (λ line. line.items ≡ codes "failed refused " ++ bmp_text fault) }
 {
     match fault {
         BmpFault::BadMagic => b"failed refused unknown".to_vec(alloc),
@@ -140,7 +138,7 @@ fn bmp_line(alloc: Global, fault: BmpFault) -> Result<Vec<u8>, AllocError>
 
 // What a line says of a view whose text is refused.
 fn refusal_line(alloc: Global, refusal: Refusal) -> Result<Vec<u8>, AllocError>
-    ensures { IfOk result (λ line. line.items ≡ codes "failed refused " ++ refusal_text (refusal_by refusal)) }
+    ensures { IfOk result (λ line. line.items ≡ codes "failed refused " ++ refusal_text refusal) }
 {
     match refusal {
         Refusal::Unknown => b"failed refused unknown".to_vec(alloc),
@@ -152,7 +150,7 @@ fn refusal_line(alloc: Global, refusal: Refusal) -> Result<Vec<u8>, AllocError>
 
 // What a line says of a view that failed.
 fn failed_line(alloc: Global, cause: Cause) -> Result<Vec<u8>, AllocError>
-    ensures { IfOk result (λ line. line.items ≡ codes "failed " ++ cause_text (cause_by cause)) }
+    ensures { IfOk result (λ line. line.items ≡ codes "failed " ++ cause_text cause) }
 {
     match cause {
         Cause::Missing => b"failed missing".to_vec(alloc),

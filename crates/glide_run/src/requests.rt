@@ -1,5 +1,6 @@
 // What a line of `load` asks for.
-ghost use Rattle.std.specs.Prelude.{◌≤◌};
+ghost use Rattle.std.specs.Prelude.{◌≤◌, length};
+ghost use Rattle.cache_key.specs.Key.{url_limit, sig_limit, wanted_side_limit};
 
 use bitmap_kind::{Config, Rule, Transform};
 
@@ -15,6 +16,10 @@ pub struct Request<'a> {
     pub transform: Transform,
     pub config: Config,
     pub rule: Rule,
+    ghost url_fits: { length url.now ≤ url_limit },
+    ghost sig_fits: { length sig.now ≤ sig_limit },
     ghost wide: { 1 ≤ width },
     ghost high: { 1 ≤ height },
+    ghost wide_most: { width ≤ wanted_side_limit },
+    ghost high_most: { height ≤ wanted_side_limit },
 }

@@ -1,10 +1,11 @@
 // What the lines of a script ask for.
-ghost use Rattle.std.specs.Prelude.{◌≡◌, ◌<◌, ◌≤◌, ◌==◌, not, map, IfOk, IfSome, length};
+ghost use Rattle.std.specs.Prelude.{◌≡◌, ◌<◌, ◌≤◌, ◌==◌, true, not, map, IfOk, IfSome, length};
 ghost use Rattle.std.specs.Option.{option_map};
 ghost use Rattle.std.specs.List.{filter, slice_split, list_all};
 ghost use Rattle.std.specs.Char.{is_ascii_digit};
 ghost use Rattle.std.specs.Str.Parse.{AllDigits, digits_value};
 ghost use Rattle.glide_run.specs.Script.{trimmed, words, is_name_byte, is_name, is_line_byte, is_comment, side, is_request, transform_named, config_named, rule_named, rule_of, key_of, load_command, word, dump_command, show_command, words_command, trimmed_command, line_command};
+ghost use Rattle.cache_key.specs.Key.{wanted_side_limit};
 ghost use Rattle.glide_run.specs.CodeTypes.{request_key, command_by};
 
 use crate::requests::Request;
@@ -88,6 +89,7 @@ fn value_of(digits: &[u8]) -> u32
 fn side_of(word: &[u8]) -> Option<u32>
     ensures side { result ≡ side word.now }
     ensures some { IfSome result (λ number. 1 ≤ number) }
+    ensures most { IfSome result (λ number. number ≤ wanted_side_limit) }
 {
     if word.is_empty() {
         return None;
@@ -183,7 +185,8 @@ fn is_request(view: &[u8], url: &[u8], sig: &[u8]) -> bool
 
 // What a load with these words asks for, if each of them is one that its place takes.
 fn request_of<'a>(words: &[&'a [u8]]) -> Option<Request<'a>>
-    requires { 8 ≤ length words.now }
+    requires count { 8 ≤ length words.now }
+    requires request { is_request (word (map (λ w. w.now) words.now) 1) (word (map (λ w. w.now) words.now) 2) (word (map (λ w. w.now) words.now) 3) ≡ true }
     ensures key { option_map request_key result ≡ key_of (map (λ w. w.now) words.now) }
     ensures view { IfSome result (λ request. request.view.now ≡ word (map (λ w. w.now) words.now) 1) }
 {
