@@ -1,0 +1,4 @@
+pub mod Cache
+pub mod Evicting
+pub mod CacheView
+pub mod Worked
