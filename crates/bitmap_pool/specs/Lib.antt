@@ -1,0 +1,6 @@
+pub mod Pool
+pub mod Evicting
+pub mod Numbered
+pub mod Worked
+pub mod PoolView
+pub mod inside
