@@ -24,4 +24,9 @@ for name in pictures failures sizes; do
     cmp "$name.printed" "$name.out" || failed=1
     rm -f "$name.printed"
 done
+echo "with a word:"
+printed=$("$built" --nonsense <pictures.script; echo "(status $?)")
+echo "$printed"
+[ "$printed" = "glide: bad usage
+(status 2)" ] || failed=1
 exit $failed

@@ -1,15 +1,23 @@
-// Obeys the script on standard input, with the pictures of the folder `images`, and writes what the views show to standard output.
+// Obeys the script on standard input, with the pictures of the folder `images`, and writes what the views show to
+// standard output.
 #![tactic(auto)]
 
-ghost use Rattle.std.specs.Prelude.{◌≡◌, ◌≢◌, ◌≤◌, []};
+ghost use Rattle.std.specs.Prelude.{◌≡◌, ◌≢◌, ◌≤◌, [], Err, IfOk};
 ghost use Rattle.glide_run.specs.Ending.{IsOrStops};
 
 use glide_run::glide_alone;
 use outside::{FolderSource, RealInput, RealSink};
-use std::alloc::AllocError;
 use std::env;
 use std::io::ErrorKind;
 use std::process::ExitCode;
+
+// Why the words of the command line are not there.
+#[derive(Clone, Copy, Debug, PartialEq, Eq)]
+enum WordsFault {
+    Memory,
+    // They are in no readable form.
+    Unreadable,
+}
 
 // The status of a run with these words.
 fn run(rt: &HostRuntime, words: &[&str]) -> u8
@@ -22,24 +30,43 @@ fn run(rt: &HostRuntime, words: &[&str]) -> u8
     glide_alone(rt.alloc(), words, &mut input, &mut out, &mut source, ()).status
 }
 
-// The status of a run with the words of the command line. Words that cannot be read stand for one that is refused.
-fn run_command_line(rt: &HostRuntime) -> Result<u8, AllocError> {
-    let args = match env::args(rt) {
-        Ok(args) => args,
-        Err(error) if error.kind() == ErrorKind::OutOfMemory => return Err(AllocError),
-        Err(_) => return Ok(run(rt, &[""])),
-    };
-    let args: Vec<String> = args.skip(1).collect(rt.alloc())?;
-    let mut words = Vec::new(rt.alloc());
-    for arg in &args {
-        words.push(arg.as_str())?;
+// The same with words of their own memory. While the program takes no words, the first alone says that they are refused.
+fn run_words(rt: &HostRuntime, words: &[String]) -> u8
+    ensures known { result ≤ 6 }
+    ensures refused { words.now ≢ [] → IsOrStops 2 result }
+{
+    match words.first() {
+        Some(word) => run(rt, &[word.as_str()]),
+        None => run(rt, &[]),
     }
-    Ok(run(rt, &words))
+}
+
+// The same, or the status where the words are not there. Words that cannot be read stand for one that is refused.
+fn status_of(rt: &HostRuntime, words: Result<Vec<String>, WordsFault>) -> u8
+    ensures known { result ≤ 6 }
+    ensures refused { IfOk words (λ words. words.items ≢ [] → IsOrStops 2 result) }
+    ensures unreadable { words ≡ Err WordsFault.Unreadable → IsOrStops 2 result }
+    ensures memory { words ≡ Err WordsFault.Memory → result ≡ 4 }
+{
+    match words {
+        Ok(words) => run_words(rt, &words),
+        Err(WordsFault::Unreadable) => run(rt, &[""]),
+        Err(WordsFault::Memory) => 4,
+    }
+}
+
+// The words of the command line, after the program's name.
+fn command_line(rt: &HostRuntime) -> Result<Vec<String>, WordsFault> {
+    match env::args(rt) {
+        Ok(args) => match args.skip(1).collect(rt.alloc()) {
+            Ok(words) => Ok(words),
+            Err(_) => Err(WordsFault::Memory),
+        },
+        Err(error) if error.kind() == ErrorKind::OutOfMemory => Err(WordsFault::Memory),
+        Err(_) => Err(WordsFault::Unreadable),
+    }
 }
 
 fn main(rt: HostRuntime) -> ExitCode {
-    match run_command_line(&rt) {
-        Ok(status) => ExitCode::from(status),
-        Err(_) => ExitCode::from(4),
-    }
+    ExitCode::from(status_of(&rt, command_line(&rt)))
 }
