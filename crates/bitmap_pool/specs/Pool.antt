@@ -1,9 +1,10 @@
 -- The bitmap pool on plain lists, for bitmaps of any kind: numbers in the engine's world, bitmaps in the pool itself. Groups in order of use, the least size that is large enough, and the eviction from the tail are those of Glide's LruBitmapPool with SizeConfigStrategy and GroupedLinkedMap; each detail of them, the factor 8 and the limits are this project's own.
 use Rattle.std.specs.Prelude.{ℕ, ◌+◌, ◌-◌, ◌*◌, Bool, not, ◌&&◌, ◌==◌, nat_lt, nat_le, List, [], ◌∷◌, ◌++◌, length, take, filter, flat_map, slice_get, replicate, Some, None, unwrap_or, if◌then◌else◌}
 use Rattle.std.specs.List.{list_any}
+use Rattle.std.specs.Option.{option_map}
 use Rattle.std.specs.declared.option.Option.{Option}
 use Rattle.bitmap_kind.specs.declared.bitmaps.Config.{Config}
-use Rattle.bitmap_kind.specs.Picture.{BitmapValue, stored_size}
+use Rattle.bitmap_kind.specs.Picture.{BitmapValue, stored_size, reconfigured}
 use Rattle.cache_key.specs.Key.{same_config}
 use Rattle.fitting.specs.Fitting.{fitting}
 
@@ -142,6 +143,14 @@ put_into pool bitmap = record pool { groups = pool_put pool.maximum bitmap.alloc
 -- a pool is asked for a bitmap of these sides and this config
 abbrev pub picked_from : PoolValue → (width height : ℕ) → Config → Picked BitmapValue
 picked_from pool width height config = pool_pick config (stored_size width height config) pool.groups
+
+-- the bitmap that it gives, seen so
+abbrev pub dirty_from : PoolValue → (width height : ℕ) → Config → Option BitmapValue
+dirty_from pool width height config = option_map (λ b. reconfigured b width height config) (picked_from pool width height config).found
+
+-- and what it leaves
+abbrev pub left_from : PoolValue → (width height : ℕ) → Config → PoolValue
+left_from pool width height config = record pool { groups = (picked_from pool width height config).groups }
 
 -- a bitmap all of whose stored bytes are 0
 abbrev pub erased : BitmapValue → BitmapValue

@@ -1,8 +1,8 @@
 // The pool, which keeps its groups within its limits.
 ghost use Rattle.std.specs.Prelude.{◌≡◌, ◌*◌, ◌≤◌, [], IfOk, IfSome};
 ghost use Rattle.std.specs.Option.{option_map};
-ghost use Rattle.bitmap_kind.specs.Picture.{BitmapValue, stored_size, IsSize, reconfigured};
-ghost use Rattle.bitmap_pool.specs.Pool.{pool_size, pool_count, pool_trim, put_into, picked_from, erased};
+ghost use Rattle.bitmap_kind.specs.Picture.{stored_size, IsSize};
+ghost use Rattle.bitmap_pool.specs.Pool.{pool_size, pool_count, pool_trim, put_into, dirty_from, left_from, erased};
 
 use crate::groups::Groups;
 use bitmap_kind::{Bitmap, Config};
@@ -58,10 +58,10 @@ impl Pool {
     /// new one too.
     pub fn get_dirty(&mut self, width: u32, height: u32, config: Config) -> Option<Bitmap>
         requires { IsSize width height }
-        ensures found { result ≡ option_map (λ b. reconfigured b width height config) (picked_from self.old width height config).found }
-        ensures left { self.new ≡ record self.old { groups = (picked_from self.old width height config).groups } }
-        ensures low { IfSome result (λ bitmap. stored_size width height config ≤ bitmap.allocation) }
-        ensures high { IfSome result (λ bitmap. bitmap.allocation ≤ 8 * stored_size width height config) }
+        ensures found { result ≡ dirty_from self.old width height config }
+        ensures left { self.new ≡ left_from self.old width height config }
+        ensures low { IfSome result (λ b. stored_size width height config ≤ b.allocation) }
+        ensures high { IfSome result (λ b. b.allocation ≤ 8 * stored_size width height config) }
     {
         let wanted = u64::from(width) * u64::from(height) * config.pixel_bytes() as u64;
         let size = self.groups.serving_size(wanted, config);
@@ -73,10 +73,10 @@ impl Pool {
     /// The same with all stored bytes 0.
     pub fn get(&mut self, width: u32, height: u32, config: Config) -> Option<Bitmap>
         requires { IsSize width height }
-        ensures found { result ≡ option_map (λ b. erased (reconfigured b width height config)) (picked_from self.old width height config).found }
-        ensures left { self.new ≡ record self.old { groups = (picked_from self.old width height config).groups } }
-        ensures low { IfSome result (λ bitmap. stored_size width height config ≤ bitmap.allocation) }
-        ensures high { IfSome result (λ bitmap. bitmap.allocation ≤ 8 * stored_size width height config) }
+        ensures found { result ≡ option_map erased (dirty_from self.old width height config) }
+        ensures left { self.new ≡ left_from self.old width height config }
+        ensures low { IfSome result (λ b. stored_size width height config ≤ b.allocation) }
+        ensures high { IfSome result (λ b. b.allocation ≤ 8 * stored_size width height config) }
     {
         let mut bitmap = self.get_dirty(width, height, config)?;
         bitmap.erase();
