@@ -3,13 +3,13 @@ ghost use Rattle.std.specs.Prelude.{◌≡◌, ◌<◌, ◌≤◌, ◌==◌, tru
 ghost use Rattle.std.specs.Option.{option_map};
 ghost use Rattle.std.specs.List.{filter, slice_split, list_all};
 ghost use Rattle.std.specs.Char.{is_ascii_digit};
-ghost use Rattle.std.specs.Str.Parse.{AllDigits, digits_value};
 ghost use Rattle.glide_run.specs.Script.{trimmed, words, is_name_byte, is_name, is_line_byte, is_comment, side, is_request, transform_named, config_named, rule_named, rule_of, key_of, load_command, word, dump_command, show_command, words_command, trimmed_command, line_command};
 ghost use Rattle.cache_key.specs.Key.{wanted_side_limit};
 ghost use Rattle.glide_run.specs.CodeTypes.{request_key, command_by};
 
 use crate::requests::Request;
 use bitmap_kind::{Config, Rule, Transform};
+use decimal::value_of;
 use std::alloc::{AllocError, Global};
 
 /// What a line asks for.
@@ -72,19 +72,6 @@ fn are_digits(word: &[u8]) -> bool
     word.iter().all(|b| b.is_ascii_digit())
 }
 
-// The number that the digits spell.
-fn value_of(digits: &[u8]) -> u32
-    requires digits { AllDigits 10 digits.now }
-    requires few { digits_value 10 digits.now < 100000 }
-    ensures { result ≡ digits_value 10 digits.now }
-{
-    let mut value = 0;
-    for digit in digits {
-        value = value * 10 + u32::from(*digit - b'0');
-    }
-    value
-}
-
 // A wanted side in pixels.
 fn side_of(word: &[u8]) -> Option<u32>
     ensures side { result ≡ side word.now }
@@ -103,7 +90,7 @@ fn side_of(word: &[u8]) -> Option<u32>
     if word[0] == b'0' {
         return None;
     }
-    let value = value_of(word);
+    let value = value_of(word)?;
     if value == 0 {
         return None;
     }

@@ -210,17 +210,24 @@ fn refused_words(rt: HostRuntime) -> Result<(), Fail> {
     Ok(())
 }
 
-#[test]
-fn failing_input(rt: HostRuntime) -> Result<(), Fail> {
-    let alloc = rt.alloc();
-    let mut first = Vec::new(alloc);
-    first.push(0)?;
-    let mut input = MemoryInput::new(SCRIPT.to_vec(alloc)?, first);
+// A run whose read of this number fails.
+fn check_input(rt: &impl Abort, alloc: Global, fails: u64, written: &[u8]) -> Result<(), Fail> {
+    let mut failing = Vec::new(alloc);
+    failing.push(fails)?;
+    let mut input = MemoryInput::new(SCRIPT.to_vec(alloc)?, failing);
     let mut out = MemorySink::new(7, Vec::new(alloc));
     let mut source = source_of(alloc, RED, NONE)?;
     let ending = glide_alone(alloc, &[], &mut input, &mut out, &mut source, ());
-    assert_eq!(&rt; out.written(), b"".as_slice());
-    assert_eq!(&rt; ending.status, 5);
+    assert_eq!(rt; out.written(), written);
+    assert_eq!(rt; ending.status, 5);
+    Ok(())
+}
+
+// The first read has the script, and the second its end: the lines before it are obeyed.
+#[test]
+fn failing_input(rt: HostRuntime) -> Result<(), Fail> {
+    check_input(&rt, rt.alloc(), 0, b"")?;
+    check_input(&rt, rt.alloc(), 1, LINE)?;
     Ok(())
 }
 
@@ -228,13 +235,14 @@ fn failing_input(rt: HostRuntime) -> Result<(), Fail> {
 fn check_sink(
     rt: &impl Abort,
     alloc: Global,
+    script: &[u8],
     fails: u64,
     written: &[u8],
     status: u8,
 ) -> Result<(), Fail> {
     let mut failing = Vec::new(alloc);
     failing.push(fails)?;
-    let mut input = MemoryInput::new(SCRIPT.to_vec(alloc)?, Vec::new(alloc));
+    let mut input = MemoryInput::new(script.to_vec(alloc)?, Vec::new(alloc));
     let mut out = MemorySink::new(1, failing);
     let mut source = source_of(alloc, RED, NONE)?;
     let ending = glide_alone(alloc, &[], &mut input, &mut out, &mut source, ());
@@ -243,9 +251,58 @@ fn check_sink(
     Ok(())
 }
 
+// Each call of the sink fails in turn, a write a byte and then the flush: what was written before stands, and no status
+// but 6 comes.
+fn check_each_failure(
+    rt: &impl Abort,
+    alloc: Global,
+    script: &[u8],
+    whole: &[u8],
+    status: u8,
+) -> Result<(), Fail> {
+    for at in 0..whole.len() {
+        check_sink(rt, alloc, script, at as u64, &whole[..at], 6)?;
+    }
+    check_sink(rt, alloc, script, whole.len() as u64, whole, 6)?;
+    check_sink(rt, alloc, script, u64::MAX, whole, status)
+}
+
 #[test]
 fn failing_output(rt: HostRuntime) -> Result<(), Fail> {
-    check_sink(&rt, rt.alloc(), NONE, LINE, 0)?;
-    check_sink(&rt, rt.alloc(), 3, b"a p", 6)?;
+    check_each_failure(&rt, rt.alloc(), SCRIPT, LINE, 0)?;
+    check_each_failure(
+        &rt,
+        rt.alloc(),
+        b"load a red 1 2 1 none argb\nload b no 1 1 1 none argb\nshow\n",
+        b"a shown 2 1 argb e0b8f3a91e53b2aee7be9493043f0d54efa0b1d7bfa018ea8f192295a7229836\nb failed missing\n",
+        1,
+    )?;
+    check_each_failure(
+        &rt,
+        rt.alloc(),
+        b"load a red 1 2 1 none argb\ndump a\ndumb a\n",
+        b"a pixels ff0000ff0000ffff\nglide: bad script line 3\n",
+        3,
+    )?;
     Ok(())
+}
+
+// A script longer than what a read takes, and a picture whose digits fill more than one piece.
+#[test]
+fn a_long_script_and_a_large_picture(rt: HostRuntime) -> Result<(), Fail> {
+    let alloc = rt.alloc();
+    let mut text = b"P6\n200 200\n255\n".to_vec(alloc)?;
+    text.resize(120_015, 7)?;
+    let mut script = Vec::new(alloc);
+    for _ in 0..900 {
+        script.extend_from_slice(b"# comment\n")?;
+    }
+    script.extend_from_slice(b"load a red 1 200 200 none argb\ndump a\n")?;
+    let mut line = b"a pixels ".to_vec(alloc)?;
+    for _ in 0..40_000 {
+        line.extend_from_slice(b"070707ff")?;
+    }
+    line.push(b'\n')?;
+    let source = source_of(alloc, &text, NONE)?;
+    check(&rt, alloc, &script, source, Wanted(&line, 0, 1))
 }

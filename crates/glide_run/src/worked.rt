@@ -1,10 +1,11 @@
 // The walk itself on worked scripts: these contracts are proved by computing the definitions, and no code is run.
-ghost use Rattle.std.specs.Prelude.{◌≡◌, ◌∷◌, ◌++◌, [], codes, replicate, true, None};
+ghost use Rattle.std.specs.Prelude.{◌≡◌, ◌∷◌, ◌++◌, [], codes, replicate, true, false, None, Some};
 ghost use Rattle.std.specs.Int.{w32, to_le_bytes};
 ghost use Rattle.std.specs.List.{flat_map};
 ghost use Rattle.std.specs.FinMap.{get};
 ghost use Rattle.outside.specs.Content.{Contents};
-ghost use Rattle.glide_run.specs.Script.{commands};
+ghost use Rattle.glide_run.specs.Script.{commands, is_name, is_request, side, trimmed_command, Bad};
+ghost use Rattle.glide_run.specs.Views.{can_name};
 ghost use Rattle.glide_run.specs.Walk.{output};
 ghost use Rattle.glide_run.specs.Worked.{text_of, Prints, Dumps, Shows};
 
@@ -45,4 +46,19 @@ fn worked_lines()
     ensures failed_fetch { Prints (true ∷ []) (codes "load a red 1 2 1 none argb" ∷ codes "dump a" ∷ []) (codes "a failed source" ∷ []) }
     ensures bad_line { Prints [] (codes "load a red 1 2 1 none argb" ∷ codes "dumb a" ∷ codes "dump a" ∷ []) (codes "glide: bad script line 2" ∷ []) }
     ensures unknown_view { Prints [] (codes "dump z" ∷ []) (codes "glide: bad script line 1" ∷ []) }
+{}
+
+// Each limit, at it and one past it.
+fn worked_limits()
+    ensures name { is_name (replicate 32 97) ≡ true }
+    ensures longer_name { is_name (replicate 33 97) ≡ false }
+    ensures url { is_request (codes "a") (replicate 1024 97) (codes "1") ≡ true }
+    ensures longer_url { is_request (codes "a") (replicate 1025 97) (codes "1") ≡ false }
+    ensures signature { is_request (codes "a") (codes "red") (replicate 64 97) ≡ true }
+    ensures longer_signature { is_request (codes "a") (codes "red") (replicate 65 97) ≡ false }
+    ensures side { side (codes "16384") ≡ Some 16384 }
+    ensures longer_side { side (codes "16385") ≡ None }
+    ensures views { can_name (codes "a") (replicate 4095 []) ≡ true }
+    ensures one_more_view { can_name (codes "a") (replicate 4096 []) ≡ false }
+    ensures longer_line { trimmed_command (replicate 2049 32) ≡ Bad }
 {}
