@@ -1,0 +1,4 @@
+pub mod Maps
+pub mod MapLaws
+pub mod SortedEntries
+pub mod Walks
