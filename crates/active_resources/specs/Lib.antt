@@ -1,0 +1,4 @@
+pub mod Actives
+pub mod ActiveView
+pub mod Changes
+pub mod inside
