@@ -156,24 +156,26 @@ module _ (law : KeyLaw) (keys : KeyMap) (key : Key) where
   pub found-it : (ks : List ℕ) (numbers : Numbers) → from_list ks ≡ numbers → Fits keys numbers → (result : Option ℕ) → result ≡ find (has_key keys key) ks
       → (number : ℕ) → (result ≡ Some number) ↔ IsActiveAt keys (Some key) numbers number
   found-it ks numbers same fits result is number =
-      let member : (n : ℕ) → contains numbers n ≡ list_any (λ y. eqb y n) ks = λ n. ap (λ s. contains s n) (sym same) ∙ contains-from_list_nat ks n in
-      (λ some. let found = find-some (has_key keys key) number ks (sym is ∙ some) in (member number ∙ found.0, key_has (map.get keys number) found.1),
-      λ at. is ∙ elim (find (has_key keys key) ks) as (λ x. find (has_key keys key) ks ≡ x → x ≡ Some number) [
-        | None ↦ λ none. absurd (contrary (find-none (has_key keys key) number ks none (sym (member number) ∙ at.0)) (has_it (map.get keys number) at.1))
-        | Some other ↦ λ some.
-            let found = find-some (has_key keys key) other ks some in
-            ap Some (fits.apart other number (member other ∙ found.0) at.0 (key_has (map.get keys other) found.1 ∙ sym at.1))
-      ] refl)
+      let member : (n : ℕ) → contains numbers n ≡ list_any (λ y. eqb y n) ks = λ n. ap (λ s. contains s n) (sym same) ∙ contains-from_list_nat ks n in (
+        λ some. let found = find-some (has_key keys key) number ks (sym is ∙ some) in (member number ∙ found.0, key_has (map.get keys number) found.1),
+        λ at. is ∙ elim (find (has_key keys key) ks) as (λ x. find (has_key keys key) ks ≡ x → x ≡ Some number) [
+          | None ↦ λ none. absurd (contrary (find-none (has_key keys key) number ks none (sym (member number) ∙ at.0)) (has_it (map.get keys number) at.1))
+          | Some other ↦ λ some.
+              let found = find-some (has_key keys key) other ks some in
+              ap Some (fits.apart other number (member other ∙ found.0) at.0 (key_has (map.get keys other) found.1 ∙ sym at.1))
+        ] refl,
+      )
 
   pub found-none : (ks : List ℕ) (numbers : Numbers) → from_list ks ≡ numbers → (result : Option ℕ) → result ≡ find (has_key keys key) ks
       → (result ≡ None) ↔ ((number : ℕ) → ¬ (IsActiveAt keys (Some key) numbers number))
   found-none ks numbers same result is =
-      let member : (n : ℕ) → contains numbers n ≡ list_any (λ y. eqb y n) ks = λ n. ap (λ s. contains s n) (sym same) ∙ contains-from_list_nat ks n in
-      (λ none number at. contrary (find-none (has_key keys key) number ks (sym is ∙ none) (sym (member number) ∙ at.0)) (has_it (map.get keys number) at.1),
-      λ nobody. is ∙ elim (find (has_key keys key) ks) as (λ x. find (has_key keys key) ks ≡ x → x ≡ None) [
-        | None ↦ λ e. refl
-        | Some other ↦ λ some. let found = find-some (has_key keys key) other ks some in absurd (nobody other (member other ∙ found.0, key_has (map.get keys other) found.1))
-      ] refl)
+      let member : (n : ℕ) → contains numbers n ≡ list_any (λ y. eqb y n) ks = λ n. ap (λ s. contains s n) (sym same) ∙ contains-from_list_nat ks n in (
+        λ none number at. contrary (find-none (has_key keys key) number ks (sym is ∙ none) (sym (member number) ∙ at.0)) (has_it (map.get keys number) at.1),
+        λ nobody. is ∙ elim (find (has_key keys key) ks) as (λ x. find (has_key keys key) ks ≡ x → x ≡ None) [
+          | None ↦ λ e. refl
+          | Some other ↦ λ some. let found = find-some (has_key keys key) other ks some in absurd (nobody other (member other ∙ found.0, key_has (map.get keys other) found.1))
+        ] refl,
+      )
 
 -- ---- fitting the keys
 
@@ -209,7 +211,7 @@ pub fits-activate : (keys : KeyMap) (numbers : Numbers) (replaced : Option ℕ) 
     → ((other : ℕ) → (replaced ≡ Some other) ↔ IsActiveAt keys (map.get keys k) numbers other) → Fits keys (insert (without replaced numbers) k)
 fits-activate keys numbers replaced k fits known it =
     let was : (n : ℕ) → contains (insert (without replaced numbers) k) n ≡ true → (n ≡ k) ⊎ ((contains numbers n ≡ true) × (replaced ≢ Some n)) =
-      λ n has. elim (within-insert (without replaced numbers) k n has) [ inl is ↦ inl is | inr left ↦ inr (within-without numbers replaced n left) ] in
+    λ n has. elim (within-insert (without replaced numbers) k n has) [ inl is ↦ inl is | inr left ↦ inr (within-without numbers replaced n left) ] in
     record {
       known = λ n has. elim (was n has) [ inl is ↦ subst (λ m. IsSome (map.get keys m)) (sym is) known | inr left ↦ fits.known n left.0 ];
       apart = λ a b in_a in_b e. elim (was a in_a) [

@@ -84,18 +84,24 @@ module _ (law : KeyLaw) (key : Key) (cached : Bool) where
       contrary (first_key-none nat_cmp_total nat_cmp-IsAntisymmetric (λ n job. serves key cached job) jobs number serving.0 none serving.1) serving.2
 
   pub job_for-is : (jobs : Jobs) → OneOfEach jobs → (number : ℕ) → (job_for key cached jobs ≡ Some number) ↔ IsJobFor key cached jobs number
-  job_for-is jobs one number = (found_is jobs number, λ it. elim (job_for key cached jobs) as (λ x. job_for key cached jobs ≡ x → x ≡ Some number) [
-    | None ↦ λ none. absurd (none_serves jobs number none it)
-    | Some other ↦ λ first.
-        let found = found_is jobs other first in
-        ap Some (one other number found.job it.job found.live it.live found.wanted it.wanted (found.same_key ∙ sym it.same_key) (found.same_kind ∙ sym it.same_kind))
-  ] refl)
+  job_for-is jobs one number = (
+    found_is jobs number,
+    λ it. elim (job_for key cached jobs) as (λ x. job_for key cached jobs ≡ x → x ≡ Some number) [
+      | None ↦ λ none. absurd (none_serves jobs number none it)
+      | Some other ↦ λ first.
+          let found = found_is jobs other first in
+          ap Some (one other number found.job it.job found.live it.live found.wanted it.wanted (found.same_key ∙ sym it.same_key) (found.same_kind ∙ sym it.same_kind))
+    ] refl,
+  )
 
   pub job_for-none : (jobs : Jobs) → (job_for key cached jobs ≡ None) ↔ ((number : ℕ) → ¬ (IsJobFor key cached jobs number))
-  job_for-none jobs = (λ none number. none_serves jobs number none, λ nobody. elim (job_for key cached jobs) as (λ x. job_for key cached jobs ≡ x → x ≡ None) [
-    | None ↦ λ e. refl
-    | Some number ↦ λ first. absurd (nobody number (found_is jobs number first))
-  ] refl)
+  job_for-none jobs = (
+    λ none number. none_serves jobs number none,
+    λ nobody. elim (job_for key cached jobs) as (λ x. job_for key cached jobs ≡ x → x ≡ None) [
+      | None ↦ λ e. refl
+      | Some number ↦ λ first. absurd (nobody number (found_is jobs number first))
+    ] refl,
+  )
 
 -- ---- the job that starts next
 
@@ -188,12 +194,15 @@ module _ (jobs : Jobs) where
   both_first i j a b (inr x) (inr y) = omega (arith, x.1, y.1)
 
   pub next_queued-is : (number : ℕ) → (next_queued jobs ≡ Some number) ↔ IsNext jobs number
-  next_queued-is number = (in_order number, λ it. elim (next_queued jobs) as (λ x. next_queued jobs ≡ x → x ≡ Some number) [
-    | None ↦ λ none. absurd (none_left number it.job none it.live it.queued)
-    | Some other ↦ λ first.
-        let found = in_order other first in
-        ap Some (both_first other number found.job.spec.priority it.job.spec.priority (found.first number it.job it.live it.queued) (it.first other found.job found.live found.queued))
-  ] refl)
+  next_queued-is number = (
+    in_order number,
+    λ it. elim (next_queued jobs) as (λ x. next_queued jobs ≡ x → x ≡ Some number) [
+      | None ↦ λ none. absurd (none_left number it.job none it.live it.queued)
+      | Some other ↦ λ first.
+          let found = in_order other first in
+          ap Some (both_first other number found.job.spec.priority it.job.spec.priority (found.first number it.job it.live it.queued) (it.first other found.job found.live found.queued))
+    ] refl,
+  )
 
   queued_nowhere : next_queued jobs ≡ None → (number : ℕ) → queued_in jobs number ≡ false
   queued_nowhere none number = elim (get jobs number) as (λ x. get jobs number ≡ x → passes (λ n j. is_queued j) number x ≡ false) [
@@ -202,10 +211,13 @@ module _ (jobs : Jobs) where
   ] refl
 
   pub next_queued-none : (next_queued jobs ≡ None) ↔ ((number : ℕ) → queued_in jobs number ≡ false)
-  next_queued-none = (queued_nowhere, λ nowhere. elim (next_queued jobs) as (λ x. next_queued jobs ≡ x → x ≡ None) [
-    | None ↦ λ e. refl
-    | Some number ↦ λ first. let found = in_order number first in absurd (contrary (nowhere number) (is_queued_in number found.job found.live found.queued))
-  ] refl)
+  next_queued-none = (
+    queued_nowhere,
+    λ nowhere. elim (next_queued jobs) as (λ x. next_queued jobs ≡ x → x ≡ None) [
+      | None ↦ λ e. refl
+      | Some number ↦ λ first. let found = in_order number first in absurd (contrary (nowhere number) (is_queued_in number found.job found.live found.queued))
+    ] refl,
+  )
 
 -- ---- the same on the entries of a vector
 

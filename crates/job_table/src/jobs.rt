@@ -204,7 +204,11 @@ impl JobTable {
     {
         let place = place_of(&self.jobs, job);
         let (_, live) = self.jobs.remove(place);
-        let Job { spec, seat: _, cancelled: _ } = live;
+        let Job {
+            spec,
+            seat: _,
+            cancelled: _,
+        } = live;
         spec
     }
 }

@@ -64,7 +64,7 @@ invariant_of-self g c =
     let r : Option ℕ = c.first_with-replaced.result in
     let left : List ℕ = left_of r ks in
     let lacks : list_any (λ y. eqb y c.args.number) ks ≡ false =
-      sym (contains-from_list_nat ks c.args.number) ∙ subst (λ (v : ActiveValue). contains v.numbers c.args.number ≡ false) (sym c.self.view_is) c.requires.absent in
+    sym (contains-from_list_nat ks c.args.number) ∙ subst (λ (v : ActiveValue). contains v.numbers c.args.number ≡ false) (sym c.self.view_is) c.requires.absent in
     let apart = apart-push c.args.number left (absent-left r ks c.args.number lacks) (apart-left r ks c.self.invariant.apart) in
     let few : length left ≤ length ks = few-left r ks in
     let one_more : length (left ++ c.args.number ∷ []) ≡ length left + 1 = length-append left (c.args.number ∷ []) in
