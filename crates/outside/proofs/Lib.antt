@@ -1,2 +1,5 @@
+pub mod Entries
+pub mod Folders
+pub mod Histories
 pub mod Lookups
 pub mod Paths

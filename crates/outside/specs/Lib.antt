@@ -1,10 +1,14 @@
 pub mod Calls
 pub mod Causes
 pub mod Content
+pub mod Files
 pub mod FolderPath
 pub mod FolderSource
+pub mod MemoryFiles
 pub mod MemoryInput
 pub mod MemorySink
 pub mod MemorySource
+pub mod Names
 pub mod RealStreams
+pub mod Stored
 pub mod Texts
