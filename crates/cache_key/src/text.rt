@@ -1,14 +1,22 @@
 // Bytes that are owned.
 ghost use Rattle.std.specs.Prelude.{◌≡◌, ◌≤◌, length, IfOk};
+ghost use Rattle.std.proofs.Common.{rules};
+ghost use Rattle.std.specs.Cmp.{partial_equiv_from_equiv};
+ghost use Rattle.std.specs.Cmp.Lexicographic.{nat_list_eq_equiv};
+ghost use Rattle.std.specs.Cmp.Rules.{hashing};
+ghost use Rattle.std.specs.Hash as fed;
+ghost use Rattle.std.specs.Str.{bytes_eq};
 
 use faults::NoMemory;
 use std::alloc::Global;
+use std::hash::{Hash, Hasher};
 use std::marker::Model;
 
 // The least room of a text, in bytes: that of the longest url, so that any text can be overwritten by one.
 const LEAST_ROOM: usize = 1_024;
 
-/// Bytes of its own: a url, a signature or a name. Contracts see it as the list of its bytes.
+/// Bytes of its own: a url, a signature or a name. Contracts see it as the list of its bytes, by which texts are equal and
+/// are keys of a map.
 #[derive(Drop)]
 pub struct Text {
     bytes: Vec<u8>,
@@ -48,5 +56,29 @@ impl Text {
     {
         self.bytes.clear();
         let _ = self.bytes.extend_from_slice(bytes);
+    }
+}
+
+impl PartialEq for Text {
+    ghost eq = { bytes_eq };
+
+    ghost laws = { partial_equiv_from_equiv nat_list_eq_equiv };
+
+    fn eq(&self, other: &Text) -> bool {
+        self.bytes() == other.bytes()
+    }
+}
+
+impl Eq for Text {
+    ghost laws = { nat_list_eq_equiv };
+}
+
+impl Hash for Text {
+    ghost hash_input = { fed.slice fed.u8 };
+
+    ghost respects_eq = { Prim.search (hashing, rules) };
+
+    fn hash<H: Hasher>(&self, state: &mut H) {
+        self.bytes().hash(state);
     }
 }
