@@ -1,3 +1,4 @@
 pub mod Journal
 pub mod Keys
 pub mod Lines
+pub mod Replay

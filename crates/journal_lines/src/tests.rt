@@ -7,7 +7,7 @@ ghost use Rattle.journal_lines.specs.declared.lines.Line.TheVariants.{Dirty, Cle
 ghost use Rattle.journal_lines.specs.declared.lines.Rest.TheVariants.{Whole, Cut};
 ghost use Rattle.journal_lines.specs.declared.lines.JournalFault.TheVariants.{BadHeader, BadLine};
 
-use crate::{Key, Line, read_line, write_line};
+use crate::{JournalFault, Key, Line, Replay, Rest, read_line, write_line};
 use std::test::Fail;
 
 // Texts as a cache leaves them: three edits, of which one was not ended; a stop within the last line; nothing;
@@ -64,4 +64,46 @@ fn lines_are_written_and_read(rt: HostRuntime) -> Result<(), Fail> {
     assert!(rt; matches!(read_line(b"REMOVE a_0-z"), Some(Line::Remove(_))));
     assert!(rt; read_line(b"CLEAN a_0-z").is_none());
     Ok(())
+}
+
+// A journal cut within its header, within a line, and before its last newline.
+#[test]
+fn pieces_are_read_as_one_text(rt: HostRuntime) {
+    let mut replay = Replay::new();
+    let mut at = 0;
+    assert!(rt; matches!(replay.next(b"libcore.io.DiskLru", &mut at), Ok(None)));
+    let piece = b"Cache\n1\n1\n1\n\nDIRTY k\nCLE";
+    at = 0;
+    assert!(rt; matches!(replay.next(piece, &mut at), Ok(Some(Line::Dirty(_)))));
+    assert!(rt; matches!(replay.next(piece, &mut at), Ok(None)));
+    at = 0;
+    assert!(rt;
+        matches!(
+            replay.next(b"AN k 3\n", &mut at),
+            Ok(Some(Line::Clean(_, 3)))
+        )
+    );
+    at = 0;
+    assert!(rt; matches!(replay.next(b"READ", &mut at), Ok(None)));
+    assert_eq!(rt; replay.end(), Ok(Rest::Cut));
+}
+
+// A fault is answered again, and at the end.
+#[test]
+fn a_fault_stays(rt: HostRuntime) {
+    let mut replay = Replay::new();
+    let mut at = 0;
+    assert!(rt;
+        matches!(
+            replay.next(b"journal", &mut at),
+            Err(JournalFault::BadHeader)
+        )
+    );
+    assert!(rt;
+        matches!(
+            replay.next(b"journal", &mut at),
+            Err(JournalFault::BadHeader)
+        )
+    );
+    assert_eq!(rt; replay.end(), Err(JournalFault::BadHeader));
 }

@@ -1,5 +1,5 @@
 // The lines of a journal as bytes.
-ghost use Rattle.std.specs.Prelude.{◌≡◌, ◌+◌, ◌≤◌, ◌<◌, ◌^◌, ◌++◌, ◌∷◌, [], length, codes};
+ghost use Rattle.std.specs.Prelude.{◌≡◌, ◌+◌, ◌≤◌, ◌<◌, ◌^◌, ◌++◌, ◌∷◌, [], length, take, codes};
 ghost use Rattle.std.specs.Fmt.{decimal};
 ghost use Rattle.journal_lines.specs.Lines.{spelled, HasShortLengths};
 ghost use Rattle.journal_lines.specs.Journal.{ended};
@@ -8,6 +8,9 @@ use crate::keys::Key;
 use crate::lines::Line;
 use itoa::Buffer;
 use std::marker::Model;
+
+// The most bytes of a line with its newline.
+const LONGEST_LINE: usize = 141;
 
 /// The bytes of a line with its newline, in a fixed array: at most `CLEAN`, a key of 120 bytes and a length of 13
 /// digits. Contracts see the list of them.
@@ -29,7 +32,7 @@ impl Model for LineText {
 
 impl LineText {
     // No bytes.
-    fn new() -> LineText
+    pub fn new() -> LineText
         ensures { result ≡ [] }
     {
         LineText {
@@ -46,6 +49,13 @@ impl LineText {
         &self.bytes[..self.count]
     }
 
+    // Takes all bytes away.
+    pub fn clear(&mut self)
+        ensures { self.new ≡ [] }
+    {
+        self.count = 0;
+    }
+
     // Adds bytes that fit.
     fn push(&mut self, bytes: &[u8])
         requires { length self.old + length bytes.now ≤ 141 }
@@ -54,6 +64,14 @@ impl LineText {
         let end = self.count + bytes.len();
         self.bytes[self.count..end].copy_from_slice(bytes);
         self.count = end;
+    }
+
+    // Adds as many of the bytes as fit.
+    pub fn fill(&mut self, bytes: &[u8])
+        ensures { self.new ≡ take 141 (self.old ++ bytes.now) }
+    {
+        let room = LONGEST_LINE - self.bytes().len();
+        self.push(&bytes[..room.min(bytes.len())]);
     }
 }
 
