@@ -1,2 +1,4 @@
-pub mod Looking
 pub mod Edits
+pub mod Guards
+pub mod Looking
+pub mod Sorted

@@ -1,3 +1,4 @@
 pub mod Jobs
 pub mod JobTableView
+pub mod Worked
 pub mod inside

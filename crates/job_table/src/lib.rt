@@ -3,5 +3,9 @@
 #![tactic(auto)]
 
 mod jobs;
+#[cfg(test)]
+mod tests;
+#[cfg(test)]
+mod worked;
 
 pub use jobs::{Job, JobTable};
