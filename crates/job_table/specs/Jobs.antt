@@ -1,4 +1,4 @@
--- The live jobs of the engine by their numbers, and what the calls of their table answer. That loads of one key share a job, and that a job of higher priority starts first, is Glide's (its Jobs, EngineJob and Priority). Numbers, that a cancelled job is no longer found while it runs, and that a queued one goes at once, are this project's own.
+-- The live jobs of the engine by their numbers, and what the calls of their table answer. That loads of one key share a job, and that a job of higher priority starts first, is Glide's (its Jobs, EngineJob and Priority). Numbers, and that a queued job that is cancelled goes at once, are this project's own.
 use Rattle.std.specs.Prelude.{◌≡◌, ℕ, ◌<◌, ◌≤◌, ◌⊎◌, Bool, true, false, not, ◌&&◌, ◌==◌, Some, None, if◌then◌else◌}
 use Rattle.std.specs.declared.option.Option.{Option}
 use Rattle.std.specs.Option.{is_none}

@@ -4,8 +4,6 @@
 mod laws;
 mod loads;
 #[cfg(test)]
-mod tests;
-#[cfg(test)]
 mod worked;
 
 pub use laws::{counts_follow_an_end, counts_follow_one_load, names_are_ordered};

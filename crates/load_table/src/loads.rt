@@ -1,5 +1,5 @@
 // The table over one vector, which is walked.
-ghost use Rattle.std.specs.Prelude.{◌≡◌, ◌<◌, true, Some, None, IsSome, IfOk, slice_get, count_by, ◌==◌};
+ghost use Rattle.std.specs.Prelude.{◌≡◌, ◌<◌, Some, None, IsSome, IfOk, slice_get, count_by, ◌==◌};
 ghost use Rattle.std.specs.Option.{option_map};
 ghost use Rattle.std.specs.FinMap.{empty, get, insert, remove, len};
 ghost use Rattle.finite_maps.specs.Maps.{map_values};
@@ -9,6 +9,9 @@ ghost use Rattle.load_table.specs.LoadsView.{entry_of, found_as, settled_entry};
 use faults::NoMemory;
 use std::alloc::Global;
 use std::marker::Model;
+
+#[cfg(test)]
+mod tests;
 
 /// A load waits on a job, is ready on a resource, or has failed with a cause.
 #[derive(Clone, Copy, Debug, PartialEq, Eq)]
@@ -212,25 +215,5 @@ impl<C: Copy> LoadTable<C> {
         ensures { result ≡ owned owner self.now.loads }
     {
         owned_among(&self.entries, owner) as u32
-    }
-}
-
-// What tests ask before a call, so that its conditions are met.
-#[cfg(test)]
-impl<C: Copy> LoadTable<C> {
-    // Whether a load is there.
-    pub fn has(&self, owner: u32, number: u64) -> bool
-        ensures { result ≡ true → IsSome (get self.now.loads (owner, number)) }
-    {
-        place_of(&self.entries, owner, number) < self.entries.len()
-    }
-
-    // Whether a load may be added: there is room, and it is not there.
-    pub fn lacks(&self, owner: u32, number: u64) -> bool
-        ensures room { result ≡ true → len self.now.loads < self.now.room }
-        ensures absent { result ≡ true → get self.now.loads (owner, number) ≡ None }
-    {
-        self.entries.len() < self.room
-            && place_of(&self.entries, owner, number) == self.entries.len()
     }
 }

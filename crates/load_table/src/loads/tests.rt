@@ -1,9 +1,26 @@
 // One life of a table, and random calls beside a plain list.
-ghost use Rattle.std.specs.Prelude.{◌<◌};
+ghost use Rattle.std.specs.Prelude.{◌≡◌, ◌<◌, true, None, IsSome};
+ghost use Rattle.std.specs.FinMap.{get, len};
 
-use crate::{LoadState, LoadTable, Settle};
+use super::{LoadState, LoadTable, Settle, place_of};
 use std::alloc::Global;
 use std::test::Fail;
+
+// Whether a load is there.
+fn has<C: Copy>(table: &LoadTable<C>, owner: u32, number: u64) -> bool
+    ensures { result ≡ true → IsSome (get table.now.loads (owner, number)) }
+{
+    place_of(&table.entries, owner, number) < table.entries.len()
+}
+
+// Whether a load may be added: there is room, and it is not there.
+fn lacks<C: Copy>(table: &LoadTable<C>, owner: u32, number: u64) -> bool
+    ensures room { result ≡ true → len table.now.loads < table.now.room }
+    ensures absent { result ≡ true → get table.now.loads (owner, number) ≡ None }
+{
+    table.entries.len() < table.room
+        && place_of(&table.entries, owner, number) == table.entries.len()
+}
 
 // Three loads of one job and one of another, of two owners.
 #[test]
@@ -12,23 +29,23 @@ fn loads_come_to_what_their_job_ends_with(rt: HostRuntime) -> Result<(), Fail> {
     for number in 0..4 {
         let owner = if number == 2 { 1 } else { 0 };
         let job = if number == 1 { 5 } else { 4 };
-        if table.lacks(owner, number) {
+        if lacks(&table, owner, number) {
             table.add(owner, number, LoadState::Waiting(job));
         }
     }
-    assert!(rt; !table.lacks(2, 0));
+    assert!(rt; !lacks(&table, 2, 0));
     assert_eq!(rt; table.waiting(4), 3);
     assert_eq!(rt; table.settle(4, Settle::Ready(9)), 3);
     assert_eq!(rt; table.settle(4, Settle::Failed(7)), 0);
     assert_eq!(rt; table.settle(5, Settle::Failed(7)), 1);
     assert_eq!(rt; table.count_of(9), 3);
     assert_eq!(rt; table.live(0), 3);
-    if table.has(1, 2) {
+    if has(&table, 1, 2) {
         assert_eq!(rt; *table.state(1, 2), LoadState::Ready(9));
         assert_eq!(rt; table.remove(1, 2), LoadState::Ready(9));
     }
-    assert!(rt; !table.has(1, 2));
-    if table.has(0, 1) {
+    assert!(rt; !has(&table, 1, 2));
+    if has(&table, 0, 1) {
         assert_eq!(rt; *table.state(0, 1), LoadState::Failed(7));
     }
     assert_eq!(rt; table.count_of(9), 2);
@@ -132,7 +149,7 @@ fn same_add(
     number: u64,
     load: LoadState<u32>,
 ) -> Result<bool, Fail> {
-    if table.lacks(owner, number) {
+    if lacks(table, owner, number) {
         table.add(owner, number, load);
         let lacked = list.lacks(owner, number);
         list.loads.push((owner, number, load))?;
@@ -142,7 +159,7 @@ fn same_add(
 }
 
 fn same_remove(table: &mut LoadTable<u32>, list: &mut PlainList, owner: u32, number: u64) -> bool {
-    if table.has(owner, number) {
+    if has(table, owner, number) {
         let state = table.remove(owner, number);
         return list.remove(owner, number) == Some(state);
     }
@@ -150,7 +167,7 @@ fn same_remove(table: &mut LoadTable<u32>, list: &mut PlainList, owner: u32, num
 }
 
 fn same_state(table: &LoadTable<u32>, list: &PlainList, owner: u32, number: u64) -> bool {
-    if table.has(owner, number) {
+    if has(table, owner, number) {
         return list.state(owner, number) == Some(*table.state(owner, number));
     }
     list.state(owner, number).is_none()
