@@ -1,14 +1,13 @@
--- The forms of a line, told by its first word. The language is this project's own; docs/SCRIPT.md tells it whole.
+-- The forms of a line, told by its first word. The language is this project's own; docs/SCRIPT.md tells it
+-- whole.
 use Rattle.std.specs.Prelude.{◌≡◌, ℕ, ◌≤◌, ◌-◌, Bool, true, false, ◌&&◌, ◌==◌, nat_le, nat_lt, nat_eq, List, [], ◌∷◌, length, take, if◌then◌else◌, Some, None, codes, ⊤}
 use Rattle.std.specs.declared.option.Option.{Option}
 use Rattle.std.specs.Option.{option_map, option_map_or, unwrap_or}
 use Rattle.std.specs.List.{ends_with, list_all}
 use Rattle.std.specs.Str.{bytes_eq}
-use Rattle.bitmap_kind.specs.declared.bitmaps.Config.{Config}
-use Rattle.bitmap_kind.specs.declared.bitmaps.Transform.{Transform}
 use Rattle.bitmap_kind.specs.declared.bitmaps.Rule.TheVariants.{AtLeast}
 use Rattle.cache_key.specs.Key.{Key}
-use Rattle.cache_key.specs.Size.{IsSize}
+use Rattle.cache_key.specs.Size.{Size, IsSize}
 use Rattle.cache_key.specs.declared.load_spec.LoadSpec.{LoadSpec}
 use Rattle.cache_key.specs.declared.load_spec.Priority.TheVariants.{Normal}
 use Rattle.cache_key.specs.declared.load_spec.Strategy.TheVariants.{Automatic}
@@ -16,121 +15,113 @@ use Rattle.script_lines.specs.declared.commands.Command.{Command}
 use Rattle.script_lines.specs.declared.commands.Command.TheVariants.{Load, Layout, Clear, ClearAll, Pause, PauseAll, Resume, Trim, Wait, Show, Dump}
 use Rattle.script_lines.specs.declared.commands.Line.{Line}
 use Rattle.script_lines.specs.declared.commands.Line.TheVariants.{Empty, Unreadable, Says}
-use Rattle.script_lines.specs.declared.settings.Settings.{Settings}
+use Rattle.script_lines.specs.declared.lines.Asked.{Asked}
+use Rattle.script_lines.specs.declared.lines.Wanted.{Wanted}
 use Rattle.script_lines.specs.Limits.{line_limit, level_limit}
 use Rattle.script_lines.specs.Options.{◌>>=◌}
 use Rattle.script_lines.specs.Settings.{settings_of}
-use Rattle.script_lines.specs.Words.{words, is_name, is_url, is_sig, side, level, transform_named, config_named}
-
--- what is there where a test holds
-abbrev pub where_true : {A : Type 0} → Bool → A → Option A
-where_true true x = Some x
-where_true false x = None
+use Rattle.script_lines.specs.Words.{words, is_name, is_url, is_sig, sides, level, transform_named, config_named}
 
 -- ---- loads
 
--- The size that a load names: a width and a height, or none for `- -`, never one alone.
-pub record Wanted : Type 0 where
-  pub width : ℕ
-  pub height : ℕ
-  pub sized : Bool
-
+-- the size that a load names: a width and a height, or none for `- -`, never one alone
 abbrev pub no_size : Wanted
 no_size = record { width = 1; height = 1; sized = false }
 
-abbrev pub sized : List ℕ → List ℕ → Option Wanted
-sized w h = do
-  width ← side w
-  height ← side h
-  Some record { width = width; height = height; sized = true }
+abbrev pub in_size : Size → Wanted
+in_size size = record { width = size.0; height = size.1; sized = true }
 
-abbrev pub wanted : List ℕ → List ℕ → Option Wanted
-wanted w h = if bytes_eq w (codes "-") && bytes_eq h (codes "-") then Some no_size else sized w h
+abbrev pub wanted_of : List ℕ → List ℕ → Option Wanted
+wanted_of w h =
+    if bytes_eq w (codes "-") && bytes_eq h (codes "-") then Some no_size else option_map in_size (sides w h)
 
--- The words that every load has: `VIEW URL SIG W H TRANSFORM CONFIG`.
-pub record LoadWords : Type 0 where
-  pub view : List ℕ
-  pub url : List ℕ
-  pub sig : List ℕ
-  pub width : List ℕ
-  pub height : List ℕ
-  pub transform : List ℕ
-  pub config : List ℕ
-
-abbrev pub key_of : LoadWords → Wanted → Transform → Config → Settings → Key
-key_of ws wanted transform config s = record {
-  url = ws.url;
-  sig = ws.sig;
-  width = wanted.width;
-  height = wanted.height;
-  transform = transform;
-  config = config;
-  rule = unwrap_or s.rule AtLeast;
-}
-
-abbrev pub spec_of : Key → Settings → LoadSpec
-spec_of key s = record {
-  key = key;
-  strategy = unwrap_or s.strategy Automatic;
-  priority = unwrap_or s.priority Normal;
-  skip = s.skip;
-  cached = s.cached;
-}
-
-abbrev pub load_in : LoadWords → (further : List (List ℕ)) → Option Command
-load_in ws further = do
-  wanted ← wanted ws.width ws.height
-  transform ← transform_named ws.transform
-  config ← config_named ws.config
+-- what a load asks for besides its texts, where each word is one that its place takes
+abbrev pub asked_of : (w h transform config : List ℕ) → (further : List (List ℕ)) → Option Asked
+asked_of w h transform config further = do
+  wanted ← wanted_of w h
+  transform ← transform_named transform
+  config ← config_named config
   settings ← settings_of further
-  Some (Load ws.view (spec_of (key_of ws wanted transform config settings) settings) wanted.sized)
+  Some record { wanted = wanted; transform = transform; config = config; settings = settings }
 
-abbrev pub load_words : LoadWords → (further : List (List ℕ)) → Option Command
-load_words ws further = if is_name ws.view && is_url ws.url && is_sig ws.sig then load_in ws further else None
+-- Where no word says otherwise a load is decoded at least as large as wanted, its priority is normal, and the
+-- disk cache keeps what Glide's AUTOMATIC does.
+abbrev pub key_of : (url sig : List ℕ) → Asked → Key
+key_of url sig asked = record {
+  url = url;
+  sig = sig;
+  width = asked.wanted.width;
+  height = asked.wanted.height;
+  transform = asked.transform;
+  config = asked.config;
+  rule = unwrap_or asked.settings.rule AtLeast;
+}
+
+abbrev pub spec_of : (url sig : List ℕ) → Asked → LoadSpec
+spec_of url sig asked = record {
+  key = key_of url sig asked;
+  strategy = unwrap_or asked.settings.strategy Automatic;
+  priority = unwrap_or asked.settings.priority Normal;
+  skip = asked.settings.skip;
+  cached = asked.settings.cached;
+}
+
+abbrev pub load_asking : (view url sig : List ℕ) → Asked → Command
+load_asking view url sig asked = Load view (spec_of url sig asked) asked.wanted.sized
+
+abbrev pub are_texts : (view url sig : List ℕ) → Bool
+are_texts view url sig = is_name view && is_url url && is_sig sig
 
 -- `load VIEW URL SIG W H TRANSFORM CONFIG [word ...]`
 abbrev pub load_of : List (List ℕ) → Option Command
-load_of (view ∷ url ∷ sig ∷ width ∷ height ∷ transform ∷ config ∷ further) =
-    load_words (record { view = view; url = url; sig = sig; width = width; height = height; transform = transform; config = config }) further
+load_of (view ∷ url ∷ sig ∷ w ∷ h ∷ transform ∷ config ∷ further) =
+    if are_texts view url sig
+    then option_map (load_asking view url sig) (asked_of w h transform config further)
+    else None
 load_of words = None
 
 -- ---- other forms
 
 -- `layout VIEW W H`
 abbrev pub layout_of : List (List ℕ) → Option Command
-layout_of (view ∷ w ∷ h ∷ []) = if is_name view then (side w >>= λ width. side h >>= λ height. Some (Layout view width height)) else None
+layout_of (view ∷ w ∷ h ∷ []) =
+    if is_name view then option_map (λ size. Layout view size.0 size.1) (sides w h) else None
 layout_of words = None
 
--- `clear VIEW`, `dump VIEW`
-abbrev pub of_view : (List ℕ → Command) → List (List ℕ) → Option Command
-of_view command (view ∷ []) = where_true (is_name view) (command view)
-of_view command words = None
+-- a view's name that stands alone, as in `clear VIEW` and `dump VIEW`
+abbrev pub view_of : List (List ℕ) → Option (List ℕ)
+view_of (view ∷ []) = if is_name view then Some view else None
+view_of words = None
 
 -- `trim N`
 abbrev pub trim_of : List (List ℕ) → Option Command
 trim_of (n ∷ []) = option_map Trim (level n)
 trim_of words = None
 
--- a word that stands alone
-abbrev pub alone : Command → List (List ℕ) → Option Command
-alone command [] = Some command
-alone command words = None
+-- verbs with no word behind them
+abbrev pub bare_command : (verb : List ℕ) → Option Command
+bare_command verb =
+    if bytes_eq verb (codes "clearall") then Some ClearAll
+    else if bytes_eq verb (codes "pause") then Some Pause
+    else if bytes_eq verb (codes "pauseall") then Some PauseAll
+    else if bytes_eq verb (codes "resume") then Some Resume
+    else if bytes_eq verb (codes "wait") then Some Wait
+    else if bytes_eq verb (codes "show") then Some Show
+    else None
 
--- what the words behind the first one ask for
+abbrev pub bare_of : (verb : List ℕ) → List (List ℕ) → Option Command
+bare_of verb [] = bare_command verb
+bare_of verb words = None
+
+-- what a verb asks for with the words behind it
 abbrev pub command_of : (verb : List ℕ) → List (List ℕ) → Option Command
 command_of verb words =
     if bytes_eq verb (codes "load") then load_of words
     else if bytes_eq verb (codes "layout") then layout_of words
-    else if bytes_eq verb (codes "clear") then of_view Clear words
-    else if bytes_eq verb (codes "clearall") then alone ClearAll words
-    else if bytes_eq verb (codes "pause") then alone Pause words
-    else if bytes_eq verb (codes "pauseall") then alone PauseAll words
-    else if bytes_eq verb (codes "resume") then alone Resume words
+    else if bytes_eq verb (codes "clear") then option_map Clear (view_of words)
+    else if bytes_eq verb (codes "dump") then option_map Dump (view_of words)
     else if bytes_eq verb (codes "trim") then trim_of words
-    else if bytes_eq verb (codes "wait") then alone Wait words
-    else if bytes_eq verb (codes "show") then alone Show words
-    else if bytes_eq verb (codes "dump") then of_view Dump words
-    else None
+    else bare_of verb words
 
 -- ---- a line
 
@@ -172,7 +163,8 @@ abbrev pub IsName : List ℕ → Type 0
 IsName view = is_name view ≡ true
 
 abbrev pub IsCommand : Command → Type 0
-IsCommand (Load view spec sized) = IsName view × (sized ≡ false → (spec.key.width ≡ 1) × (spec.key.height ≡ 1))
+IsCommand (Load view spec sized) =
+    IsName view × (sized ≡ false → (spec.key.width ≡ 1) × (spec.key.height ≡ 1))
 IsCommand (Layout view width height) = IsName view × IsSize (width, height)
 IsCommand (Clear view) = IsName view
 IsCommand (Trim level) = level ≤ level_limit

@@ -1,7 +1,9 @@
 pub mod Commands
 pub mod Limits
 pub mod Options
+pub mod Reading
 pub mod Script
 pub mod Settings
 pub mod Words
 pub mod Worked
+pub mod inside

@@ -1,5 +1,5 @@
--- The limits of a script and its lines. They are this project's own. Those of a url, a signature and a wanted side stand beside
--- the key of a picture.
+-- The limits of a script and its lines. They are this project's own. Those of a url, a signature and a wanted
+-- side stand beside the key of a picture.
 use Rattle.std.specs.Prelude.{ℕ}
 
 -- the longest script, and the longest line without its ending, in bytes

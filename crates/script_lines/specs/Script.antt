@@ -22,14 +22,16 @@ onto_line byte (line ∷ lines) = (byte ∷ line) ∷ lines
 -- the lines that a line feed ends
 abbrev pub ended_lines : List ℕ → List (List ℕ)
 ended_lines [] = []
-ended_lines (byte ∷ text) = if byte == 10 then [] ∷ ended_lines text else onto_first byte (ended_lines text)
+ended_lines (byte ∷ text) =
+    if byte == 10 then [] ∷ ended_lines text else onto_first byte (ended_lines text)
 
 -- all lines, of which the last may lack its line feed
 abbrev pub lines_of : List ℕ → List (List ℕ)
 lines_of [] = []
 lines_of (byte ∷ text) = if byte == 10 then [] ∷ lines_of text else onto_line byte (lines_of text)
 
--- What the lines of a text say that may have so many bytes. In a longer text the line that holds the byte after them is bad.
+-- What the lines of a text say that may have so many bytes. In a longer text the line that holds the byte
+-- after them is bad.
 abbrev pub lines_within : ℕ → List ℕ → List Line
 lines_within room text =
     if nat_le (length text) room then map line_of (lines_of text)
@@ -42,7 +44,8 @@ pub record Numbered : Type 0 where
   pub line : ℕ
   pub command : Command
 
--- What a script asks for: its commands up to the first bad line, and the number of this line, if there is one.
+-- What a script asks for: its commands up to the first bad line, and the number of this line, if there is
+-- one.
 pub record Script : Type 0 where
   pub commands : List Numbered
   pub bad : Option ℕ
@@ -56,7 +59,8 @@ abbrev pub script_from : ℕ → List Line → Script
 script_from before [] = record { commands = []; bad = None }
 script_from before (Empty ∷ lines) = script_from (before + 1) lines
 script_from before (Unreadable ∷ lines) = record { commands = []; bad = Some (before + 1) }
-script_from before (Says command ∷ lines) = with_first (record { line = before + 1; command = command }) (script_from (before + 1) lines)
+script_from before (Says command ∷ lines) =
+    with_first (record { line = before + 1; command = command }) (script_from (before + 1) lines)
 
 -- what the lines of a text say, which may have 1,048,576 bytes
 unfoldable pub said_lines : List ℕ → List Line

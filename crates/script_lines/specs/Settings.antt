@@ -1,4 +1,5 @@
--- The further words of a load, in any order and at most one of each kind. This project's own; what they mean is Glide's.
+-- The further words of a load, in any order and at most one of each kind. This project's own; what they mean
+-- is Glide's.
 use Rattle.std.specs.Prelude.{ℕ, true, false, List, [], ◌∷◌, if◌then◌else◌, Some, None, codes}
 use Rattle.std.specs.declared.option.Option.{Option}
 use Rattle.std.specs.Option.{option_map, is_some}
@@ -14,24 +15,47 @@ use Rattle.script_lines.specs.declared.settings.Further.TheVariants as further
 use Rattle.script_lines.specs.declared.settings.Settings.{Settings}
 use Rattle.script_lines.specs.Options.{◌>>=◌}
 
--- `atleast` and `atmost`, for Glide's AT_LEAST and AT_MOST; the priorities; the strategies ALL, DATA, RESOURCE, NONE and AUTOMATIC
--- of the disk cache; and whether memory is passed over, or only what is cached may answer
+-- Glide's strategies AT_LEAST and AT_MOST of decoding
+abbrev pub rule_named : List ℕ → Option Rule
+rule_named word =
+    if bytes_eq word (codes "atleast") then Some rules.AtLeast
+    else if bytes_eq word (codes "atmost") then Some rules.AtMost
+    else None
+
+-- Glide's priorities
+abbrev pub priority_named : List ℕ → Option Priority
+priority_named word =
+    if bytes_eq word (codes "immediate") then Some priorities.Immediate
+    else if bytes_eq word (codes "high") then Some priorities.High
+    else if bytes_eq word (codes "normal") then Some priorities.Normal
+    else if bytes_eq word (codes "low") then Some priorities.Low
+    else None
+
+-- Glide's strategies ALL, DATA, RESOURCE, NONE and AUTOMATIC of the disk cache
+abbrev pub strategy_named : List ℕ → Option Strategy
+strategy_named word =
+    if bytes_eq word (codes "all") then Some strategies.All
+    else if bytes_eq word (codes "data") then Some strategies.Source
+    else if bytes_eq word (codes "resource") then Some strategies.Results
+    else if bytes_eq word (codes "nodisk") then Some strategies.Nowhere
+    else if bytes_eq word (codes "auto") then Some strategies.Automatic
+    else None
+
+-- what is named first
+abbrev pub or_else : {A : Type 0} → Option A → Option A → Option A
+or_else None other = other
+or_else (Some x) other = Some x
+
+-- what a further word says; `skip` passes memory over, and `cached` lets only what is cached answer
 abbrev pub further_named : List ℕ → Option Further
 further_named word =
-    if bytes_eq word (codes "atleast") then Some (further.Rule rules.AtLeast)
-    else if bytes_eq word (codes "atmost") then Some (further.Rule rules.AtMost)
-    else if bytes_eq word (codes "immediate") then Some (further.Priority priorities.Immediate)
-    else if bytes_eq word (codes "high") then Some (further.Priority priorities.High)
-    else if bytes_eq word (codes "normal") then Some (further.Priority priorities.Normal)
-    else if bytes_eq word (codes "low") then Some (further.Priority priorities.Low)
-    else if bytes_eq word (codes "all") then Some (further.Strategy strategies.All)
-    else if bytes_eq word (codes "data") then Some (further.Strategy strategies.Source)
-    else if bytes_eq word (codes "resource") then Some (further.Strategy strategies.Results)
-    else if bytes_eq word (codes "nodisk") then Some (further.Strategy strategies.Nowhere)
-    else if bytes_eq word (codes "auto") then Some (further.Strategy strategies.Automatic)
-    else if bytes_eq word (codes "skip") then Some further.Skip
+    if bytes_eq word (codes "skip") then Some further.Skip
     else if bytes_eq word (codes "cached") then Some further.Cached
-    else None
+    else or_else (option_map further.Rule (rule_named word))
+    (or_else (option_map further.Priority (priority_named word))
+    (option_map further.Strategy (strategy_named word)))
+
+-- ---- what several words say together
 
 abbrev pub no_settings : Settings
 no_settings = record { rule = None; priority = None; strategy = None; skip = false; cached = false }
@@ -39,8 +63,10 @@ no_settings = record { rule = None; priority = None; strategy = None; skip = fal
 -- one thing more, where nothing of its kind was said
 abbrev pub and_said : Settings → Further → Option Settings
 and_said s (further.Rule rule) = if is_some s.rule then None else Some (record s { rule = Some rule })
-and_said s (further.Priority priority) = if is_some s.priority then None else Some (record s { priority = Some priority })
-and_said s (further.Strategy strategy) = if is_some s.strategy then None else Some (record s { strategy = Some strategy })
+and_said s (further.Priority priority) =
+    if is_some s.priority then None else Some (record s { priority = Some priority })
+and_said s (further.Strategy strategy) =
+    if is_some s.strategy then None else Some (record s { strategy = Some strategy })
 and_said s further.Skip = if s.skip then None else Some (record s { skip = true })
 and_said s further.Cached = if s.cached then None else Some (record s { cached = true })
 

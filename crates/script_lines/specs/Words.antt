@@ -1,4 +1,5 @@
--- The words of a line, and what each may stand for. The language is this project's own; what the words of a load mean is Glide's.
+-- The words of a line, and what each may stand for. The language is this project's own; what the words of a
+-- load mean is Glide's.
 use Rattle.std.specs.Prelude.{ℕ, Bool, not, ◌&&◌, ◌||◌, ◌==◌, nat_le, List, length, get_or, if◌then◌else◌, Some, None, codes}
 use Rattle.std.specs.declared.option.Option.{Option}
 use Rattle.std.specs.List.{filter, slice_split, list_all}
@@ -10,7 +11,9 @@ use Rattle.bitmap_kind.specs.declared.bitmaps.Config.TheVariants as configs
 use Rattle.bitmap_kind.specs.declared.bitmaps.Transform.{Transform}
 use Rattle.bitmap_kind.specs.declared.bitmaps.Transform.TheVariants as transforms
 use Rattle.cache_key.specs.Key.{url_limit, sig_limit, wanted_side_limit}
+use Rattle.cache_key.specs.Size.{Size}
 use Rattle.script_lines.specs.Limits.{name_limit, level_limit}
+use Rattle.script_lines.specs.Options.{◌>>=◌}
 
 -- the parts between spaces that are not empty
 abbrev pub words : List ℕ → List (List ℕ)
@@ -37,16 +40,27 @@ is_sig word = nat_le (length word) sig_limit
 
 -- digits without a leading zero, or `0`
 abbrev pub is_whole : List ℕ → Bool
-is_whole word = not (length word == 0) && list_all is_ascii_digit word && (length word == 1 || not (get_or word 0 48 == 48))
+is_whole word =
+    not (length word == 0) && list_all is_ascii_digit word
+    && (length word == 1 || not (get_or word 0 48 == 48))
 
 -- the whole number that a word spells, where it lies between these two
 abbrev pub number_within : (least most : ℕ) → List ℕ → Option ℕ
 number_within least most word =
-    if is_whole word && nat_le least (digits_value 10 word) && nat_le (digits_value 10 word) most then Some (digits_value 10 word) else None
+    if is_whole word && nat_le least (digits_value 10 word) && nat_le (digits_value 10 word) most
+    then Some (digits_value 10 word)
+    else None
 
 -- a wanted side, in pixels
 abbrev pub side : List ℕ → Option ℕ
 side word = number_within 1 wanted_side_limit word
+
+-- a wanted width and height
+abbrev pub sides : List ℕ → List ℕ → Option Size
+sides w h = do
+  width ← side w
+  height ← side h
+  Some (width, height)
 
 -- a level of a trim
 abbrev pub level : List ℕ → Option ℕ

@@ -16,10 +16,22 @@ use Rattle.script_lines.specs.Script.{Numbered}
 
 -- the picture `red` of version `1`, wanted at 2 by 1 pixels
 abbrev pub red_key : Key
-red_key = record { url = codes "red"; sig = codes "1"; width = 2; height = 1; transform = transforms.Nothing; config = Argb8888; rule = AtLeast }
+red_key = record {
+  url = codes "red";
+  sig = codes "1";
+  width = 2;
+  height = 1;
+  transform = transforms.Nothing;
+  config = Argb8888;
+  rule = AtLeast;
+}
 
 abbrev pub red : LoadSpec
 red = record { key = red_key; strategy = Automatic; priority = Normal; skip = false; cached = false }
+
+-- the same at no size
+abbrev pub red_sizeless : LoadSpec
+red_sizeless = record red { key = record red_key { width = 1; height = 1 } }
 
 -- a load of it in view `a`
 abbrev pub load_red : LoadSpec → Line
@@ -35,7 +47,8 @@ at_line line command = record { line = line; command = command }
 -- a load whose view's name, url and signature have so many bytes
 abbrev pub long_load : (name url sig : ℕ) → List ℕ
 long_load name url sig =
-    codes "load " ++ replicate name 97 ++ codes " " ++ replicate url 117 ++ codes " " ++ replicate sig 115 ++ codes " 2 1 none argb"
+    codes "load " ++ replicate name 97 ++ codes " " ++ replicate url 117 ++ codes " " ++ replicate sig 115
+    ++ codes " 2 1 none argb"
 
 -- whether a line has one of the forms
 abbrev pub is_read : Line → Bool

@@ -10,8 +10,8 @@ use thiserror::Error;
 /// What a line of a script asks for. A text is the name of a view: 1 to 32 letters, digits, `_`, `-` and `.`.
 #[derive(Drop)]
 pub enum Command {
-    /// A load begins in the view, which is new or known. The last says whether the line names a size; where it names none,
-    /// both sides of the key are 1.
+    /// A load begins in the view, which is new or known. The last says whether the line names a size; where
+    /// it names none, both sides of the key are 1.
     Load(Text, LoadSpec, bool),
     /// The view has this width and height, in pixels, each 1 to 16,384.
     Layout(Text, u32, u32),

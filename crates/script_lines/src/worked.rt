@@ -1,4 +1,5 @@
-// The language itself on worked lines: these contracts are proved by computing the definitions, and no code is run.
+// The language itself on worked lines: these contracts are proved by computing the definitions, and no code
+// is run.
 ghost use Rattle.std.specs.Prelude.{◌≡◌, ◌++◌, ◌∷◌, [], true, false, Some, None, codes, replicate};
 ghost use Rattle.bitmap_kind.specs.declared.bitmaps.Rule.TheVariants.{AtMost};
 ghost use Rattle.cache_key.specs.declared.load_spec.Priority.TheVariants.{High};
@@ -8,7 +9,7 @@ ghost use Rattle.script_lines.specs.declared.commands.Line.TheVariants.{Empty, U
 ghost use Rattle.script_lines.specs.Commands.{line_of};
 ghost use Rattle.script_lines.specs.Script.{lines_within, script_from};
 ghost use Rattle.script_lines.specs.Words.{level, side};
-ghost use Rattle.script_lines.specs.Worked.{red_key, red, load_red, said_with, at_line, long_load, is_read};
+ghost use Rattle.script_lines.specs.Worked.{red_key, red, red_sizeless, load_red, said_with, at_line, long_load, is_read};
 
 // The forms of a line.
 fn worked_forms()
@@ -27,10 +28,13 @@ fn worked_forms()
 // Loads: with a size and without one, with further words in any order, and with two words of one kind.
 fn worked_loads()
     ensures sized { said_with [] ≡ load_red red }
-    ensures sizeless { line_of (codes "load a red 1 - - none argb") ≡ Says (Load (codes "a") record red { key = record red_key { width = 1; height = 1 } } false) }
+    ensures sizeless { line_of (codes "load a red 1 - - none argb") ≡
+        Says (Load (codes "a") red_sizeless false) }
     ensures one_side { line_of (codes "load a red 1 2 - none argb") ≡ Unreadable }
-    ensures rule { said_with (codes " atmost") ≡ load_red record red { key = record red_key { rule = AtMost } } }
-    ensures any_order { said_with (codes " cached high resource") ≡ load_red record red { priority = High; strategy = Results; cached = true } }
+    ensures rule { said_with (codes " atmost") ≡
+        load_red record red { key = record red_key { rule = AtMost } } }
+    ensures any_order { said_with (codes " cached high resource") ≡
+        load_red record red { priority = High; strategy = Results; cached = true } }
     ensures skips { said_with (codes " skip") ≡ load_red record red { skip = true } }
     ensures two_rules { said_with (codes " atmost atmost") ≡ Unreadable }
     ensures two_strategies { said_with (codes " all skip nodisk") ≡ Unreadable }

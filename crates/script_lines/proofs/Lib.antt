@@ -1,0 +1,5 @@
+pub mod Kept
+pub mod Numbers
+pub mod Parts
+pub mod SaidLines
+pub mod SaidScripts

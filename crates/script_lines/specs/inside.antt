@@ -1,0 +1,2 @@
+pub mod LineView
+pub mod Pieces
