@@ -1,0 +1,6 @@
+pub mod Printed
+pub mod Walk
+pub mod Ends
+pub mod Marks
+pub mod Starts
+pub mod Worked
