@@ -1,5 +1,12 @@
 // The walk of a script: what a plain reading of its lines does to the views, and what it prints.
 #![tactic(auto)]
 
+mod laws;
+
+pub use laws::{
+    ends_decide_the_walk, no_marks_no_failures, runs_are_marked_walks, traces_are_orderly,
+    walks_stop_at_the_first_bad_line,
+};
+
 #[cfg(test)]
 mod worked;

@@ -1,0 +1,104 @@
+-- A walk stops just at the first bad line.
+use Rattle.std.proofs.Common.{◌≡◌, ℕ, ◌+◌, true, false, cond, List, [], ◌∷◌, ◌++◌, take, Some, None, refl, ap, sym, ◌∙◌, arith}
+use Rattle.std.specs.Prelude.{suc}
+use Rattle.std.specs.Option.{option_len}
+use Rattle.std.proofs.lemmas.Option.{none-some, same_Some}
+use Rattle.request_tracker.specs.declared.views.Ask.{Ask}
+use Rattle.request_tracker.specs.Moves.{Move, new_view}
+use Rattle.load_cause.specs.declared.causes.Cause.{Cause}
+use Rattle.script_lines.specs.declared.commands.Command.{Command}
+use Rattle.script_lines.specs.declared.commands.Command.TheVariants.{Load, Layout, Clear, ClearAll, Pause, PauseAll, Resume, Trim, Wait, Show, Dump}
+use Rattle.script_lines.specs.declared.commands.Line.{Line}
+use Rattle.script_lines.specs.declared.commands.Line.TheVariants.{Empty, Unreadable, Says}
+use Rattle.script_walk.specs.Walk.{Begin, WalkView, Outcome, Stage, opening, begin_by, held, moved_view, each_move, gathered, names_of, has_name, names_in, can_obey, Effect, Moves, Gathers, Trims, with_view, effect, after_effect, step, stay, then_step, walk}
+use Rattle.script_walk.specs.Ends.{with_name, names_after, bad_line_from}
+use Rattle.script_walk.specs.Laws.{StopsAtBadLine}
+
+names-append : (xs : List WalkView) (y : WalkView) → names_of (xs ++ y ∷ []) ≡ names_of xs ++ y.name ∷ []
+names-append [] y = refl
+names-append (x ∷ xs) y = ap (λ l. x.name ∷ l) (names-append xs y)
+
+pub with_view_names : (name : List ℕ) (ask : Ask) (s : Stage) → names_of (with_view name ask s).views ≡ with_name name (names_of s.views)
+with_view_names name ask s =
+    let new : WalkView = record { name = name; view = new_view ask; last = None } in
+    elim (has_name name (names_of s.views)) as (λ t. names_of (cond t s.views (s.views ++ new ∷ [])) ≡ cond t (names_of s.views) (names_of s.views ++ name ∷ [])) [
+      | true ↦ refl
+      | false ↦ names-append s.views new
+    ]
+
+-- the names that a command leaves, before the views move
+abbrev pub SetNames : Stage → List (List ℕ) → Effect → Type 0
+SetNames s names (Moves set moves) = names_of set.views ≡ names
+SetNames s names (Gathers form shown) = names_of s.views ≡ names
+SetNames s names (Trims level) = names_of s.views ≡ names
+
+pub effect_names : (s : Stage) (command : Command) → SetNames s (names_after (names_in command) (names_of s.views)) (effect s command)
+effect_names s (Load view spec sized) = with_view_names view (record { spec = spec; sized = sized }) s
+effect_names s (Layout view width height) = refl
+effect_names s (Clear view) = refl
+effect_names s ClearAll = refl
+effect_names s Pause = refl
+effect_names s PauseAll = refl
+effect_names s Resume = refl
+effect_names s (Trim level) = refl
+effect_names s Wait = refl
+effect_names s Show = refl
+effect_names s (Dump view) = refl
+
+move_names : (moves : List ℕ → Move Cause) (k g : ℕ) (before : List Begin) (vs : List WalkView) → names_of (each_move moves k g before vs).views ≡ names_of vs
+move_names moves k g before [] = refl
+move_names moves k g before (v ∷ vs) =
+    let begin = begin_by (moves v.name) (k + 1) g v in
+    ap (λ l. v.name ∷ l) (move_names moves (k + option_len begin) g (before ++ held (moved_view (moves v.name) begin v)) vs)
+
+gather_names : (o : Outcome) (vs : List WalkView) → names_of (gathered o vs) ≡ names_of vs
+gather_names o [] = refl
+gather_names o (v ∷ vs) = ap (λ l. v.name ∷ l) (gather_names o vs)
+
+pub after_names : (o : Outcome) (s : Stage) (names : List (List ℕ)) (e : Effect) → SetNames s names e → names_of (after_effect o s e).stage.views ≡ names
+after_names o s names (Moves set moves) h = move_names moves set.begun set.gathers [] set.views ∙ h
+after_names o s names (Gathers form shown) h = gather_names o s.views ∙ h
+after_names o s names (Trims level) h = h
+
+-- the lines before the bad one, and where a walk of them stands
+record Stops (o : Outcome) (s : Stage) (k n : ℕ) (names : List (List ℕ)) (lines : List Line) : Type 0 where
+  before : ℕ
+  number : n ≡ k + before
+  same : walk o s lines ≡ walk o s (take before lines)
+  good : bad_line_from k names (take before lines) ≡ None
+
+stops_here : (o : Outcome) (s : Stage) (k n : ℕ) (names : List (List ℕ)) (lines : List Line) → k ≡ n → walk o s lines ≡ stay s → Stops o s k n names lines
+stops_here o s k n names lines is none = record { before = 0; number = omega (arith, is); same = none; good = refl }
+
+stops_from : (o : Outcome) (lines : List Line) (s : Stage) (k n : ℕ) → bad_line_from k (names_of s.views) lines ≡ Some n → Stops o s k n (names_of s.views) lines
+stops_from o [] s k n e = absurd (none-some _ e)
+stops_from o (Empty ∷ lines) s k n e =
+    let rest = stops_from o lines s (k + 1) n e in
+    record {
+      before = suc rest.before;
+      number = omega (arith, rest.number);
+      same = rest.same;
+      good = rest.good;
+    }
+stops_from o (Unreadable ∷ lines) s k n e = stops_here o s k n (names_of s.views) (Unreadable ∷ lines) (same_Some _ _ e) refl
+stops_from o (Says command ∷ lines) s k n e =
+    let r = step o s command in
+    let after = names_after (names_in command) (names_of s.views) in
+    elim (can_obey (names_in command) (names_of s.views)) as (λ t. can_obey (names_in command) (names_of s.views) ≡ t → cond t (bad_line_from (k + 1) after lines) (Some k) ≡ Some n → Stops o s k n (names_of s.views) (Says command ∷ lines)) [
+      | true ↦ λ yes e.
+          let names : names_of r.stage.views ≡ after = after_names o s after (effect s command) (effect_names s command) in
+          let rest = stops_from o lines r.stage (k + 1) n (ap (λ l. bad_line_from (k + 1) l lines) names ∙ e) in
+          record {
+            before = suc rest.before;
+            number = omega (arith, rest.number);
+            same = ap (λ t. cond t (then_step r (walk o r.stage lines)) (stay s)) yes ∙ ap (then_step r) rest.same
+                ∙ sym (ap (λ t. cond t (then_step r (walk o r.stage (take rest.before lines))) (stay s)) yes);
+            good = ap (λ t. cond t (bad_line_from (k + 1) after (take rest.before lines)) (Some k)) yes ∙ ap (λ l. bad_line_from (k + 1) l (take rest.before lines)) (sym names) ∙ rest.good;
+          }
+      | false ↦ λ no e. stops_here o s k n (names_of s.views) (Says command ∷ lines) (same_Some _ _ e) (ap (λ t. cond t (then_step r (walk o r.stage lines)) (stay s)) no)
+    ] refl e
+
+pub stops_at_bad_line : StopsAtBadLine
+stops_at_bad_line o lines n e =
+    let all = stops_from o lines opening 1 n e in
+    record { before = all.before; number_is = all.number; walk_is = all.same; none_bad = all.good }

@@ -1,0 +1,28 @@
+// The laws of the walk, each as the contract of a function that does nothing.
+ghost use Rattle.script_walk.specs.Laws.{NoMarksNoFailures, EndsDecide, TracesAreOrderly, StopsAtBadLine, RunsAreWalks};
+
+/// Without marks a walk shows what each key comes to.
+pub fn no_marks_no_failures()
+    ensures { NoMarksNoFailures }
+{}
+
+/// Two outcomes that agree on each begin that came to its end make one walk.
+pub fn ends_decide_the_walk()
+    ensures { EndsDecide }
+{}
+
+/// Begins are numbered in order and end with the script, each is dropped once, and no more than 4,096 are there at a time.
+pub fn traces_are_orderly()
+    ensures { TracesAreOrderly }
+{}
+
+/// A walk stops just at the first bad line, and is that of the lines before it.
+pub fn walks_stop_at_the_first_bad_line()
+    ensures { StopsAtBadLine }
+{}
+
+/// A run whose begins came to what their keys do, or failed for a cause that a mark may stand for, is the walk under some
+/// marks. Each mark stands for such a failure of its own begin.
+pub fn runs_are_marked_walks()
+    ensures { RunsAreWalks }
+{}
