@@ -6,3 +6,4 @@ pub mod Live
 pub mod Orderly
 pub mod Licence
 pub mod Realize
+pub mod Tracked

@@ -4,5 +4,6 @@ pub mod Ends
 pub mod Marks
 pub mod Starts
 pub mod Orderly
+pub mod Tracked
 pub mod Laws
 pub mod Worked

@@ -1,5 +1,6 @@
 // The laws of the walk, each as the contract of a function that does nothing.
 ghost use Rattle.script_walk.specs.Laws.{NoMarksNoFailures, EndsDecide, TracesAreOrderly, StopsAtBadLine, RunsAreWalks};
+ghost use Rattle.script_walk.specs.Tracked.{TrackerMakesTheMoves};
 
 /// Without marks a walk shows what each key comes to.
 pub fn no_marks_no_failures()
@@ -25,4 +26,10 @@ pub fn walks_stop_at_the_first_bad_line()
 /// marks. Each mark stands for such a failure of its own begin.
 pub fn runs_are_marked_walks()
     ensures { RunsAreWalks }
+{}
+
+/// At a stage whose views have distinct names a command makes of the walk's views what the tracker's moves make of its own,
+/// and can be obeyed just where the tracker's call can. The names stay distinct.
+pub fn a_tracker_makes_the_moves()
+    ensures { TrackerMakesTheMoves }
 {}

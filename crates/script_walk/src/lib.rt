@@ -4,8 +4,8 @@
 mod laws;
 
 pub use laws::{
-    ends_decide_the_walk, no_marks_no_failures, runs_are_marked_walks, traces_are_orderly,
-    walks_stop_at_the_first_bad_line,
+    a_tracker_makes_the_moves, ends_decide_the_walk, no_marks_no_failures, runs_are_marked_walks,
+    traces_are_orderly, walks_stop_at_the_first_bad_line,
 };
 
 #[cfg(test)]
