@@ -1,5 +1,5 @@
 -- A walk stops just at the first bad line.
-use Rattle.std.proofs.Common.{◌≡◌, ℕ, ◌+◌, true, false, cond, List, [], ◌∷◌, ◌++◌, take, Some, None, refl, ap, sym, ◌∙◌, arith}
+use Rattle.std.proofs.Common.{length, append_assoc, ◌≡◌, ℕ, ◌+◌, true, false, cond, List, [], ◌∷◌, ◌++◌, take, Some, None, refl, ap, sym, ◌∙◌, arith}
 use Rattle.std.specs.Prelude.{suc}
 use Rattle.std.specs.Option.{option_len}
 use Rattle.std.proofs.lemmas.Option.{none-some, same_Some}
@@ -10,9 +10,9 @@ use Rattle.script_lines.specs.declared.commands.Command.{Command}
 use Rattle.script_lines.specs.declared.commands.Command.TheVariants.{Load, Layout, Clear, ClearAll, Pause, PauseAll, Resume, Trim, Wait, Show, Dump}
 use Rattle.script_lines.specs.declared.commands.Line.{Line}
 use Rattle.script_lines.specs.declared.commands.Line.TheVariants.{Empty, Unreadable, Says}
-use Rattle.script_walk.specs.Walk.{Begin, WalkView, Outcome, Stage, opening, begin_by, held, moved_view, each_move, gathered, names_of, has_name, names_in, can_obey, Effect, Moves, Gathers, Trims, with_view, effect, after_effect, step, stay, then_step, walk}
+use Rattle.script_walk.specs.Walk.{Step, Begin, WalkView, Outcome, Stage, opening, begin_by, held, moved_view, each_move, gathered, names_of, has_name, names_in, can_obey, Effect, Moves, Gathers, Trims, with_view, effect, after_effect, step, stay, then_step, walk}
 use Rattle.script_walk.specs.Ends.{with_name, names_after, bad_line_from}
-use Rattle.script_walk.specs.Laws.{StopsAtBadLine}
+use Rattle.script_walk.specs.Laws.{StopsAtBadLine, WalksGoOn}
 
 names-append : (xs : List WalkView) (y : WalkView) → names_of (xs ++ y ∷ []) ≡ names_of xs ++ y.name ∷ []
 names-append [] y = refl
@@ -102,3 +102,42 @@ pub stops_at_bad_line : StopsAtBadLine
 stops_at_bad_line o lines n e =
     let all = stops_from o lines opening 1 n e in
     record { before = all.before; number_is = all.number; walk_is = all.same; none_bad = all.good }
+
+-- ---- behind lines of which none is bad
+
+record GoesFrom (o : Outcome) (s : Stage) (k : ℕ) (done left : List Line) : Type 0 where
+  walk_is : walk o s (done ++ left) ≡ then_step (walk o s done) (walk o (walk o s done).stage left)
+  bad_is : bad_line_from k (names_of s.views) (done ++ left) ≡ bad_line_from (k + length done) (names_of (walk o s done).stage.views) left
+
+goes_from : (o : Outcome) (done left : List Line) (s : Stage) (k : ℕ) → bad_line_from k (names_of s.views) done ≡ None → GoesFrom o s k done left
+goes_from o [] left s k e = let same : k ≡ k + 0 = omega arith in record { walk_is = refl; bad_is = ap (λ n. bad_line_from n (names_of s.views) left) same }
+goes_from o (Empty ∷ done) left s k e =
+    let rest = goes_from o done left s (k + 1) e in
+    let same : (k + 1) + length done ≡ k + length (Empty ∷ done) = omega arith in
+    record { walk_is = rest.walk_is; bad_is = rest.bad_is ∙ ap (λ n. bad_line_from n (names_of (walk o s done).stage.views) left) same }
+goes_from o (Unreadable ∷ done) left s k e = absurd (none-some _ (sym e))
+goes_from o (Says command ∷ done) left s k e =
+    let r = step o s command in
+    let after = names_after (names_in command) (names_of s.views) in
+    elim (can_obey (names_in command) (names_of s.views)) as (λ t. can_obey (names_in command) (names_of s.views) ≡ t → cond t (bad_line_from (k + 1) after done) (Some k) ≡ None → GoesFrom o s k (Says command ∷ done) left) [
+      | true ↦ λ yes e.
+          let names : names_of r.stage.views ≡ after = after_names o s after (effect s command) (effect_names s command) in
+          let rest = goes_from o done left r.stage (k + 1) (ap (λ l. bad_line_from (k + 1) l done) names ∙ e) in
+          let so_far = walk o r.stage done in
+          let behind = walk o so_far.stage left in
+          let here : walk o s (Says command ∷ done) ≡ then_step r so_far = ap (λ t. cond t (then_step r so_far) (stay s)) yes in
+          let same : (k + 1) + length done ≡ k + length (Says command ∷ done) = omega arith in
+          record {
+            walk_is = ap (λ t. cond t (then_step r (walk o r.stage (done ++ left))) (stay s)) yes ∙ ap (then_step r) rest.walk_is
+                ∙ ap (λ l. let w : Step = record { stage = behind.stage; events = l } in w) (sym (append_assoc r.events so_far.events behind.events))
+                ∙ sym (ap (λ (w : Step). then_step w (walk o w.stage left)) here);
+            bad_is = ap (λ t. cond t (bad_line_from (k + 1) after (done ++ left)) (Some k)) yes ∙ ap (λ l. bad_line_from (k + 1) l (done ++ left)) (sym names) ∙ rest.bad_is
+                ∙ ap (λ n. bad_line_from n (names_of so_far.stage.views) left) same ∙ sym (ap (λ (w : Step). bad_line_from (k + length (Says command ∷ done)) (names_of w.stage.views) left) here);
+          }
+      | false ↦ λ no e. absurd (none-some _ (sym e))
+    ] refl e
+
+pub walks_go_on : WalksGoOn
+walks_go_on o done left e =
+    let all = goes_from o done left opening 1 e in
+    record { walk_is = all.walk_is; bad_is = all.bad_is }

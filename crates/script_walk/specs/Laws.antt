@@ -1,13 +1,13 @@
 -- The laws of the walk. They are this project's own.
-use Rattle.std.specs.Prelude.{◌≡◌, ℕ, ◌+◌, ◌≤◌, ◌⊎◌, List, [], ◌∷◌, count_by, take, ⊤, Some, None, Err, Result}
+use Rattle.std.specs.Prelude.{◌≡◌, ℕ, ◌+◌, ◌≤◌, ◌⊎◌, List, [], ◌∷◌, ◌++◌, length, count_by, take, ⊤, Some, None, Err, Result}
 use Rattle.outside.specs.Content.{Address}
 use Rattle.bitmap_kind.specs.Picture.{Picture}
 use Rattle.cache_key.specs.KeyBytes.{address_of}
 use Rattle.load_cause.specs.declared.causes.Cause.{Cause}
 use Rattle.load_cause.specs.declared.causes.Cause.TheVariants as causes
 use Rattle.script_lines.specs.declared.commands.Line.{Line}
-use Rattle.script_walk.specs.Walk.{Begin, Outcome, TraceEvent, Dropped, Begun, Ended, Trimmed, Printed, opening, walk, trace}
-use Rattle.script_walk.specs.Ends.{bad_line}
+use Rattle.script_walk.specs.Walk.{Begin, Outcome, TraceEvent, Dropped, Begun, Ended, Trimmed, Printed, opening, names_of, then_step, walk, trace}
+use Rattle.script_walk.specs.Ends.{bad_line_from, bad_line}
 use Rattle.script_walk.specs.Marks.{Marks, Mark, KeyResults, no_marks, cause_of, outcome_of, begins_in, same_address, failed_fetches}
 use Rattle.script_walk.specs.Orderly.{IsOrderly}
 
@@ -44,6 +44,17 @@ pub record StopsAt (outcome : Outcome) (lines : List Line) (n : ℕ) : Type 0 wh
 abbrev pub StopsAtBadLine : Type 0
 StopsAtBadLine = (outcome : Outcome) (lines : List Line) (n : ℕ)
     → bad_line lines ≡ Some n → StopsAt outcome lines n
+
+-- Where none of these lines is bad, a walk goes on behind them from where they leave it, and so does the count of lines.
+pub record GoesOn (outcome : Outcome) (done left : List Line) : Type 0 where
+  pub walk_is :
+      let so_far = walk outcome opening done in
+      walk outcome opening (done ++ left) ≡ then_step so_far (walk outcome so_far.stage left)
+  pub bad_is : bad_line (done ++ left)
+      ≡ bad_line_from (1 + length done) (names_of (walk outcome opening done).stage.views) left
+
+abbrev pub WalksGoOn : Type 0
+WalksGoOn = (outcome : Outcome) (done left : List Line) → bad_line done ≡ None → GoesOn outcome done left
 
 -- ---- marks
 

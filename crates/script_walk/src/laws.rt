@@ -1,5 +1,5 @@
 // The laws of the walk, each as the contract of a function that does nothing.
-ghost use Rattle.script_walk.specs.Laws.{NoMarksNoFailures, EndsDecide, TracesAreOrderly, StopsAtBadLine, RunsAreWalks};
+ghost use Rattle.script_walk.specs.Laws.{NoMarksNoFailures, EndsDecide, TracesAreOrderly, StopsAtBadLine, WalksGoOn, RunsAreWalks};
 ghost use Rattle.script_walk.specs.Tracked.{TrackerMakesTheMoves};
 
 /// Without marks a walk shows what each key comes to.
@@ -20,6 +20,11 @@ pub fn traces_are_orderly()
 /// A walk stops just at the first bad line, and is that of the lines before it.
 pub fn walks_stop_at_the_first_bad_line()
     ensures { StopsAtBadLine }
+{}
+
+/// Where none of the first lines is bad, a walk goes on behind them from where they leave it.
+pub fn walks_go_on()
+    ensures { WalksGoOn }
 {}
 
 /// A run whose begins came to what their keys do, or failed for a cause that a mark may stand for, is the walk under some
