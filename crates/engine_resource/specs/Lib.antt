@@ -1,1 +1,3 @@
 pub mod Resource
+pub mod Uses
+pub mod Worked

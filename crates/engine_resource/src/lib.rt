@@ -2,8 +2,12 @@
 //! `EngineResource`.
 #![tactic(auto)]
 
+mod laws;
 mod resources;
 #[cfg(test)]
 mod tests;
+#[cfg(test)]
+mod worked;
 
+pub use laws::count_is_acquires_less_releases;
 pub use resources::Resource;
