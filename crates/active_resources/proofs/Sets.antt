@@ -23,7 +23,7 @@ or_false : (a b : Bool) → (a || b) ≡ false → (a ≡ false) × (b ≡ false
 or_false true b e = cc
 or_false false b e = (refl, e)
 
-or_true : (a b : Bool) → (a || b) ≡ true → (a ≡ true) ⊎ (b ≡ true)
+pub or_true : (a b : Bool) → (a || b) ≡ true → (a ≡ true) ⊎ (b ≡ true)
 or_true true b e = inl refl
 or_true false b e = inr e
 
@@ -48,7 +48,7 @@ or_one : (a : Bool) → (a || true) ≡ true
 or_one true = refl
 or_one false = refl
 
-not_of : (b : Bool) → not b ≡ true → b ≡ false
+pub not_of : (b : Bool) → not b ≡ true → b ≡ false
 not_of true e = cc
 not_of false e = refl
 

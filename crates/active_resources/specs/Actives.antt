@@ -1,9 +1,9 @@
 -- The numbers of the resources that loads hold, with at most one of each key. That a load finds an active resource by its key is Glide's ActiveResources; numbers in place of objects, and that a number is let go only by itself, are this project's own.
-use Rattle.std.specs.Prelude.{◌≡◌, ℕ, Bool, true, false, Some, None, IsSome}
+use Rattle.std.specs.Prelude.{◌≡◌, ℕ, Bool, true, false, Some, None, IsSome, ◌↔◌}
 use Rattle.std.specs.declared.option.Option.{Option}
 use Rattle.std.specs.Ordering.{nat_cmp}
 use Rattle.std.specs.FinMap.{get}
-use Rattle.std.specs.FinSet.{FinSet, contains, remove}
+use Rattle.std.specs.FinSet.{FinSet, contains, insert, remove}
 use Rattle.cache_key.specs.Key.{Key}
 use Rattle.cache_key.specs.KeyOf.{KeyMap}
 
@@ -25,7 +25,19 @@ pub record Fits (keys : KeyMap) (numbers : Numbers) : Type 0 where
 abbrev pub IsActiveAt : KeyMap → Option Key → Numbers → ℕ → Type 0
 IsActiveAt keys wanted numbers number = (contains numbers number ≡ true) × (get keys number ≡ wanted)
 
+-- The answer is the number that is active and has what is asked for,
+abbrev pub TellsIt : KeyMap → Option Key → Numbers → Option ℕ → Type 0
+TellsIt keys wanted numbers answer = (number : ℕ) → (answer ≡ Some number) ↔ IsActiveAt keys wanted numbers number
+
+-- or there is no such number.
+abbrev pub NobodyHas : KeyMap → Option Key → Numbers → Type 0
+NobodyHas keys wanted numbers = (number : ℕ) → ¬ (IsActiveAt keys wanted numbers number)
+
 -- without the one that is replaced, if there is one
 abbrev pub without : Option ℕ → Numbers → Numbers
 without None numbers = numbers
 without (Some number) numbers = remove numbers number
+
+-- a table with this number, in the place of the one that is replaced
+abbrev pub activated : Option ℕ → ℕ → ActiveValue → ActiveValue
+activated replaced number active = record active { numbers = insert (without replaced active.numbers) number }

@@ -4,13 +4,16 @@ ghost use Rattle.std.specs.List.{list_any, find};
 ghost use Rattle.std.specs.FinMap.{get};
 ghost use Rattle.std.specs.FinSet.{contains, len, empty, insert, remove};
 ghost use Rattle.cache_key.specs.KeyOf.{KeyMap};
-ghost use Rattle.active_resources.specs.Actives.{ActiveValue, Fits, IsActiveAt, without};
-ghost use Rattle.active_resources.specs.inside.Numbers.{has_key, others, left_of};
+ghost use Rattle.active_resources.specs.Actives.{ActiveValue, Fits, TellsIt, NobodyHas, activated};
+ghost use Rattle.active_resources.specs.inside.Numbers.{AllKnown, has_key, others, left_of};
 
 use cache_key::{EngineKey, KeyOf, same_key_is_equality};
 use faults::NoMemory;
 use std::alloc::Global;
 use std::marker::Model;
+
+#[cfg(test)]
+mod tests;
 
 /// The numbers of the active resources. After `new` no call takes memory.
 #[derive(Drop)]
@@ -37,7 +40,7 @@ impl Model for Active {
 
 // The first of these numbers that has this key.
 fn first_with<R: KeyOf>(numbers: &[u64], keys: &R, key: &EngineKey) -> Option<u64>
-    requires known { (number : ℕ) → list_any (λ n. nat_eq n number) numbers.now ≡ true → IsSome (get (R.keys keys.now) number) }
+    requires known { AllKnown (R.keys keys.now) numbers.now }
     ensures { result ≡ find (has_key (R.keys keys.now) key.now) numbers.now }
 {
     for number in numbers {
@@ -80,8 +83,8 @@ impl Active {
     /// The active number that has this key.
     pub fn find<R: KeyOf>(&self, keys: &R, key: &EngineKey) -> Option<u64>
         requires fits { Fits (R.keys keys.now) self.now.numbers }
-        ensures it { (number : ℕ) → (result ≡ Some number) ↔ IsActiveAt (R.keys keys.now) (Some key.now) self.now.numbers number }
-        ensures none { (result ≡ None) ↔ ((number : ℕ) → ¬ (IsActiveAt (R.keys keys.now) (Some key.now) self.now.numbers number)) }
+        ensures it { TellsIt (R.keys keys.now) (Some key.now) self.now.numbers result }
+        ensures none { (result ≡ None) ↔ NobodyHas (R.keys keys.now) (Some key.now) self.now.numbers }
     {
         same_key_is_equality();
         first_with(&self.numbers, keys, key)
@@ -93,9 +96,9 @@ impl Active {
         requires fits { Fits (R.keys keys.now) self.old.numbers }
         requires known { IsSome (get (R.keys keys.now) number) }
         requires absent { contains self.old.numbers number ≡ false }
-        ensures it { let keys = R.keys keys.now in (other : ℕ) → (result ≡ Some other) ↔ IsActiveAt keys (get keys number) self.old.numbers other }
-        ensures none { let keys = R.keys keys.now in (result ≡ None) ↔ ((other : ℕ) → ¬ (IsActiveAt keys (get keys number) self.old.numbers other)) }
-        ensures active { self.new ≡ record self.old { numbers = insert (without result self.old.numbers) number } }
+        ensures it { let keys = R.keys keys.now in TellsIt keys (get keys number) self.old.numbers result }
+        ensures none { let keys = R.keys keys.now in (result ≡ None) ↔ NobodyHas keys (get keys number) self.old.numbers }
+        ensures active { self.new ≡ activated result number self.old }
         ensures fits { Fits (R.keys keys.now) self.new.numbers }
     {
         same_key_is_equality();

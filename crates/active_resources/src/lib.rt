@@ -4,6 +4,8 @@
 
 mod actives;
 mod laws;
+#[cfg(test)]
+mod worked;
 
 pub use actives::Active;
 pub use laws::fits_while_others_change;
