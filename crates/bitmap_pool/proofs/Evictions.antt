@@ -11,7 +11,7 @@ use Rattle.bitmap_pool.specs.Evicting.{evict_one, IsPoolOver}
 
 -- ---- groups, whose bitmaps have one size
 
-sum_of_one : {A : Type 0} (s : ℕ) (xs : List A) → sum_by (λ _. s) xs ≡ s * length xs
+pub sum_of_one : {A : Type 0} (s : ℕ) (xs : List A) → sum_by (λ _. s) xs ≡ s * length xs
 sum_of_one s [] = omega arith
 sum_of_one s (x ∷ xs) =
     let rest : sum_by (λ _. s) xs ≡ s * length xs = sum_of_one s xs in

@@ -4,3 +4,4 @@ pub mod Lasts
 pub mod Stored
 pub mod Steps
 pub mod Least
+pub mod Limits

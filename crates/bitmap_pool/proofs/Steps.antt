@@ -39,7 +39,7 @@ same_last p q same (x ∷ xs) =
 pub groups_without_bare : (ks : List GroupKey) (bs : List BitmapValue) → without_last is_empty (groups_of ks bs) ≡ groups_of (without_last (is_bare bs) ks) bs
 groups_without_bare ks bs = without_last_of_map (group_of bs) is_empty ks ∙ ap (map (group_of bs)) ((same_last (λ k. is_empty (group_of bs k)) (is_bare bs) (bare_is bs) ks).1)
 
-none_without : {A : Type 0} (p q : A → Bool) (xs : List A) → list_any p xs ≡ false → list_any p (without_last q xs) ≡ false
+pub none_without : {A : Type 0} (p q : A → Bool) (xs : List A) → list_any p xs ≡ false → list_any p (without_last q xs) ≡ false
 none_without p q [] none = refl
 none_without p q (x ∷ xs) none = elim (list_any q xs) as (λ t. list_any p (cond t (x ∷ without_last q xs) (cond (q x) xs (x ∷ xs))) ≡ false) [
   | true ↦ ap (λ t. t || list_any p (without_last q xs)) (or_left _ _ none) ∙ none_without p q xs (or_right _ _ none)
@@ -120,12 +120,12 @@ sums ks (b ∷ bs) apart placed =
     (omega (arith, size, size_rest, sum), omega (arith, count, count_rest))
 
 -- groups none of which is empty are no more than their bitmaps
-pub few_full : (gs : List (Group BitmapValue)) → list_any is_empty gs ≡ false → length gs ≤ pool_count gs
+pub few_full : {A : Type 0} (gs : List (Group A)) → list_any is_empty gs ≡ false → length gs ≤ pool_count gs
 few_full [] none = omega arith
-few_full (g ∷ gs) none =
+few_full {A = A} (g ∷ gs) none =
     let some : eqb (length g.items) 0 ≡ false = or_left _ _ none in
     let rest : length gs ≤ pool_count gs = few_full gs (or_right _ _ none) in
-    let more : 0 < length g.items = elim g.items as (λ (l : List BitmapValue). eqb (length l) 0 ≡ false → 0 < length l) [ [] ↦ λ e. absurd (let no : true ≡ false = e in cc) | x ∷ xs ↦ λ e. omega arith ] some in
+    let more : 0 < length g.items = elim g.items as (λ (l : List A). eqb (length l) 0 ≡ false → 0 < length l) [ [] ↦ λ e. absurd (let no : true ≡ false = e in cc) | x ∷ xs ↦ λ e. omega arith ] some in
     omega (arith, rest, more)
 
 pub any_bare : (ks : List GroupKey) (bs : List BitmapValue) → list_any is_empty (groups_of ks bs) ≡ list_any (is_bare bs) ks

@@ -1,5 +1,6 @@
 pub mod Pool
 pub mod Evicting
+pub mod Limits
 pub mod Numbered
 pub mod Worked
 pub mod PoolView

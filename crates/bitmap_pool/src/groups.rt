@@ -3,6 +3,7 @@ ghost use Rattle.std.specs.Prelude.{◌≡◌, ℕ, ◌+◌, ◌-◌, ◌*◌, �
 ghost use Rattle.std.specs.List.{list_any, HoldsAt};
 ghost use Rattle.bitmap_pool.specs.Pool.{pool_size, pool_count, has_group, pool_trim, with_room, with_room_for, add_last, without_last, least_with, serving_size, pick_among, pick_at};
 ghost use Rattle.bitmap_pool.specs.Evicting.{evict_one};
+ghost use Rattle.bitmap_pool.specs.Limits.{AreApart};
 ghost use Rattle.bitmap_kind.specs.Picture.{BitmapValue};
 ghost use Rattle.bitmap_pool.specs.inside.GroupsView.{is_key, has_key, is_of, is_bare, serves, allocation_in};
 
@@ -157,7 +158,9 @@ impl Groups {
 
     /// The bytes of all bitmaps.
     pub fn size(&self) -> u128
-        ensures { result ≡ pool_size self.now }
+        ensures size { result ≡ pool_size self.now }
+        ensures apart { AreApart self.now }
+        ensures few { length self.now ≤ 2048 }
     {
         total_of(&self.bitmaps)
     }

@@ -10,5 +10,5 @@ mod tests;
 #[cfg(test)]
 mod worked;
 
-pub use laws::{evictions_end_in_what_fits, numbers_stand_for_bitmaps};
+pub use laws::{evictions_end_in_what_fits, numbers_stand_for_bitmaps, pools_stay_within_limits};
 pub use pools::Pool;

@@ -2,7 +2,8 @@
 ghost use Rattle.std.specs.Prelude.{◌≡◌, ◌*◌, ◌≤◌, [], IfOk, IfSome};
 ghost use Rattle.std.specs.Option.{option_map};
 ghost use Rattle.bitmap_kind.specs.Picture.{stored_size, IsSize};
-ghost use Rattle.bitmap_pool.specs.Pool.{pool_size, pool_count, pool_trim, put_into, dirty_from, left_from, erased};
+ghost use Rattle.bitmap_pool.specs.Limits.{IsPool};
+ghost use Rattle.bitmap_pool.specs.Pool.{pool_size, pool_trim, put_into, dirty_from, left_from, erased};
 
 use crate::groups::Groups;
 use bitmap_kind::{Bitmap, Config};
@@ -107,11 +108,11 @@ impl Pool {
         self.maximum = maximum;
     }
 
-    /// The bytes of all bitmaps.
+    /// The bytes of all bitmaps. After each call the pool is within its limits: its bytes are at most the maximum, and it
+    /// has at most 1,024 bitmaps and 2,048 groups.
     pub fn size(&self) -> u64
         ensures size { result ≡ pool_size self.now.groups }
-        ensures most { pool_size self.now.groups ≤ self.now.maximum }
-        ensures count { pool_count self.now.groups ≤ 1024 }
+        ensures within { IsPool self.now.maximum self.now.groups }
     {
         let size = self.groups.size();
         prove!(size <= u128::from(self.maximum));
