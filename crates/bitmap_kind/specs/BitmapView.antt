@@ -1,14 +1,14 @@
--- How the fields of a bitmap are seen. It is this project's own, as the fields are.
-use Rattle.std.specs.Prelude.{◌≤◌, length, take, drop}
-use Rattle.bitmap_kind.specs.Picture.{BitmapValue, stored_size, IsSize}
+-- How the fields of a bitmap are seen.
+use Rattle.std.specs.Prelude.{◌≤◌, length, drop}
+use Rattle.bitmap_kind.specs.Picture.{BitmapValue, stored_size, IsSize, picture_in}
 use Rattle.bitmap_kind.specs.declared.bitmaps.Bitmap.TheInside.{Inside}
 
--- the front of its memory is the picture's bytes, and the rest is spare
+-- its memory begins with the picture's bytes, and the rest is spare
 abbrev pub value_of : Inside → BitmapValue
 value_of b = record {
   number = b.number;
   allocation = length b.memory.items;
-  picture = record { width = b.width; height = b.height; config = b.config; bytes = take (stored_size b.width b.height b.config) b.memory.items };
+  picture = picture_in b.memory.items b.width b.height b.config;
   spare = drop (stored_size b.width b.height b.config) b.memory.items;
 }
 

@@ -2,3 +2,4 @@ pub mod Stored
 pub mod StoredLaws
 pub mod Picture
 pub mod BitmapView
+pub mod Pieces

@@ -1,7 +1,7 @@
 -- What contracts see of a bitmap. Sides, config, allocation and reconfiguring are those of Android's Bitmap
--- (getAllocationByteCount, reconfigure). The number, the order of the rows, the limit on pixels and the spare bytes are
--- this project's own.
-use Rattle.std.specs.Prelude.{ℕ, ◌+◌, ◌*◌, ◌≤◌, List, ◌++◌, take, drop}
+-- (getAllocationByteCount, reconfigure). The number, the order of the rows, the limit on pixels and the
+-- spare bytes are this project's own.
+use Rattle.std.specs.Prelude.{ℕ, ◌+◌, ◌*◌, ◌≤◌, List, ◌++◌, replicate, take, drop}
 use Rattle.std.specs.List.{flat_map}
 use Rattle.bitmap_kind.specs.Stored.{pixel_bytes, overwritten}
 use Rattle.bitmap_kind.specs.declared.bitmaps.Config.{Config}
@@ -13,7 +13,8 @@ pub record Picture : Type 0 where
   pub config : Config
   pub bytes : List ℕ
 
--- A bitmap's memory is the stored bytes of its picture, and then the spare ones. The allocation is the size of both.
+-- A bitmap's memory is the stored bytes of its picture, and then the spare ones. The allocation is the size
+-- of both.
 pub record BitmapValue : Type 0 where
   pub number : ℕ
   pub allocation : ℕ
@@ -23,6 +24,10 @@ pub record BitmapValue : Type 0 where
 -- how many bytes a picture of these sides has
 abbrev pub stored_size : ℕ → ℕ → Config → ℕ
 stored_size width height config = width * height * pixel_bytes config
+
+-- how many stored bytes a picture has
+abbrev pub picture_size : Picture → ℕ
+picture_size picture = stored_size picture.width picture.height picture.config
 
 -- how many pixels a bitmap may have at most, a limit of this project
 abbrev pub pixel_limit : ℕ
@@ -53,15 +58,44 @@ pixels_at picture y columns = flat_map (λ x. pixel_at picture x y) columns
 
 -- in a row so many neighbours, from a column on
 abbrev pub run_at : Picture → ℕ → ℕ → ℕ → List ℕ
-run_at picture x y count = take (count * pixel_bytes picture.config) (drop (pixel_place picture x y) picture.bytes)
+run_at picture x y count =
+    take (count * pixel_bytes picture.config) (drop (pixel_place picture x y) picture.bytes)
 
--- a bitmap with a piece written over its stored bytes
+-- ---- what calls make of a bitmap
+
+-- a picture of these sides whose stored bytes are all 0
+abbrev pub blank : ℕ → ℕ → Config → Picture
+blank width height config = record {
+  width = width;
+  height = height;
+  config = config;
+  bytes = replicate (stored_size width height config) 0;
+}
+
+-- a bitmap with other stored bytes, as many
+abbrev pub with_bytes : BitmapValue → List ℕ → BitmapValue
+with_bytes bitmap bytes = record bitmap { picture = record bitmap.picture { bytes = bytes } }
+
+-- a bitmap with a piece written over its stored bytes, from a place on
 abbrev pub with_piece : BitmapValue → ℕ → List ℕ → BitmapValue
-with_piece bitmap at piece = record bitmap { picture = record bitmap.picture { bytes = overwritten bitmap.picture.bytes at piece } }
+with_piece bitmap at piece = with_bytes bitmap (overwritten bitmap.picture.bytes at piece)
+
+-- a bitmap with a piece written from the pixel of a column and a row on
+abbrev pub with_pixels : BitmapValue → ℕ → ℕ → List ℕ → BitmapValue
+with_pixels bitmap x y piece = with_piece bitmap (pixel_place bitmap.picture x y) piece
+
+-- a picture of these sides whose stored bytes begin a memory
+abbrev pub picture_in : List ℕ → ℕ → ℕ → Config → Picture
+picture_in memory width height config = record {
+  width = width;
+  height = height;
+  config = config;
+  bytes = take (stored_size width height config) memory;
+}
 
 -- the same memory, seen with other sides and another config
 abbrev pub reconfigured : BitmapValue → ℕ → ℕ → Config → BitmapValue
 reconfigured bitmap width height config = record bitmap {
-  picture = record { width = width; height = height; config = config; bytes = take (stored_size width height config) (bitmap.picture.bytes ++ bitmap.spare) };
+  picture = picture_in (bitmap.picture.bytes ++ bitmap.spare) width height config;
   spare = drop (stored_size width height config) (bitmap.picture.bytes ++ bitmap.spare);
 }

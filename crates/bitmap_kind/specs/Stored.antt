@@ -10,7 +10,8 @@ pixel_bytes Argb8888 = 4
 pixel_bytes Rgb565 = 2
 pixel_bytes Alpha8 = 1
 
--- The high 5 bits of red, then the high 6 of green, then the high 5 of blue: 16 bits, as in Android's RGB_565.
+-- The high 5 bits of red, then the high 6 of green, then the high 5 of blue: 16 bits, as in Android's
+-- RGB_565.
 abbrev pub rgb565_word : ℕ → ℕ → ℕ → ℕ
 rgb565_word r g b = r / 8 * 2048 + g / 4 * 32 + b / 8
 

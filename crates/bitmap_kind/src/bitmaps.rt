@@ -1,6 +1,6 @@
 // A bitmap owns its bytes. Contracts see its number, its allocation and its picture.
 ghost use Rattle.std.specs.Prelude.{◌≡◌, ℕ, ◌+◌, ◌*◌, ◌<◌, ◌≤◌, [], length, replicate, All, IfOk, IsTrue, ◌↔◌};
-ghost use Rattle.bitmap_kind.specs.Stored.{pixel_bytes, stored, overwritten};
+ghost use Rattle.bitmap_kind.specs.Stored.{pixel_bytes, stored};
 
 use crate::pieces;
 use faults::NoMemory;
@@ -74,7 +74,7 @@ impl Model for Bitmap {
 }
 
 impl Bitmap {
-    ghost use Rattle.bitmap_kind.specs.Picture.{BitmapValue, stored_size, IsSize, FitsIn, pixel_place, pixel_at, pixels_at, run_at, with_piece, reconfigured};
+    ghost use Rattle.bitmap_kind.specs.Picture.{BitmapValue, stored_size, picture_size, IsSize, FitsIn, pixel_at, pixels_at, run_at, blank, with_bytes, with_piece, with_pixels, reconfigured};
 
     /// The most pixels that a bitmap may have, a limit of this project.
     pub const MOST_PIXELS: u64 = 33_554_432;
@@ -91,7 +91,7 @@ impl Bitmap {
         ensures { IfOk result (λ b. b ≡ record {
           number = number;
           allocation = stored_size width height config;
-          picture = record { width = width; height = height; config = config; bytes = replicate (stored_size width height config) 0 };
+          picture = blank width height config;
           spare = [];
         }) }
     {
@@ -117,7 +117,7 @@ impl Bitmap {
     pub fn width(&self) -> u32
         ensures value { result ≡ self.now.picture.width }
         ensures size { IsSize self.now.picture.width self.now.picture.height }
-        ensures len { length self.now.picture.bytes ≡ stored_size self.now.picture.width self.now.picture.height self.now.picture.config }
+        ensures len { length self.now.picture.bytes ≡ picture_size self.now.picture }
     {
         self.width
     }
@@ -126,7 +126,7 @@ impl Bitmap {
     pub fn height(&self) -> u32
         ensures value { result ≡ self.now.picture.height }
         ensures size { IsSize self.now.picture.width self.now.picture.height }
-        ensures len { length self.now.picture.bytes ≡ stored_size self.now.picture.width self.now.picture.height self.now.picture.config }
+        ensures len { length self.now.picture.bytes ≡ picture_size self.now.picture }
     {
         self.height
     }
@@ -141,7 +141,7 @@ impl Bitmap {
     /// How many bytes of memory it has, which stay as they were made.
     pub fn allocation(&self) -> u64
         ensures value { result ≡ self.now.allocation }
-        ensures room { stored_size self.now.picture.width self.now.picture.height self.now.picture.config ≤ self.now.allocation }
+        ensures room { picture_size self.now.picture ≤ self.now.allocation }
     {
         self.memory.len() as u64
     }
@@ -149,7 +149,7 @@ impl Bitmap {
     /// The stored bytes: rows from the top, pixels from the left.
     pub fn bytes(&self) -> &[u8]
         ensures value { result.now ≡ self.now.picture.bytes }
-        ensures len { length result.now ≡ stored_size self.now.picture.width self.now.picture.height self.now.picture.config }
+        ensures len { length result.now ≡ picture_size self.now.picture }
     {
         let size = self.width as usize * self.height as usize * self.config.pixel_bytes();
         &self.memory[..size]
@@ -194,11 +194,7 @@ impl Bitmap {
 
     /// Sets all stored bytes to 0.
     pub fn erase(&mut self)
-        ensures { self.new ≡ record self.old {
-          picture = record self.old.picture {
-            bytes = replicate (stored_size self.old.picture.width self.old.picture.height self.old.picture.config) 0;
-          };
-        } }
+        ensures { self.new ≡ with_bytes self.old (replicate (picture_size self.old.picture) 0) }
     {
         let size = self.width as usize * self.height as usize * self.config.pixel_bytes();
         pieces::write_zeros(&mut self.memory, size);
@@ -208,11 +204,7 @@ impl Bitmap {
     pub fn put_pixel(&mut self, x: u32, y: u32, rgba: [u8; 4])
         requires column { x < self.old.picture.width }
         requires row { y < self.old.picture.height }
-        ensures { self.new ≡ record self.old {
-          picture = record self.old.picture {
-            bytes = overwritten self.old.picture.bytes (pixel_place self.old.picture x y) (stored self.old.picture.config rgba);
-          };
-        } }
+        ensures { self.new ≡ with_pixels self.old x y (stored self.old.picture.config rgba) }
     {
         let at = (y as usize * self.width as usize + x as usize) * self.config.pixel_bytes();
         pieces::write_pixels(&mut self.memory, at, self.config, &rgba, 1);
@@ -222,11 +214,9 @@ impl Bitmap {
     pub fn put_row(&mut self, y: u32, rgba: &[u8])
         requires row { y < self.old.picture.height }
         requires pixels { length rgba.now ≡ 4 * self.old.picture.width }
-        ensures { self.new ≡ record self.old {
-          picture = record self.old.picture {
-            bytes = overwritten self.old.picture.bytes (y * (self.old.picture.width * pixel_bytes self.old.picture.config)) (stored self.old.picture.config rgba.now);
-          };
-        } }
+        ensures { self.new ≡ with_piece self.old
+            (y * (self.old.picture.width * pixel_bytes self.old.picture.config))
+            (stored self.old.picture.config rgba.now) }
     {
         let width = self.width as usize;
         let at = y as usize * (width * self.config.pixel_bytes());
@@ -235,8 +225,8 @@ impl Bitmap {
 
     /// Stores a whole picture, which is given as its stored bytes: rows from the top, pixels from the left.
     pub fn put_bytes(&mut self, bytes: &[u8])
-        requires { length bytes.now ≡ stored_size self.old.picture.width self.old.picture.height self.old.picture.config }
-        ensures { self.new ≡ record self.old { picture = record self.old.picture { bytes = bytes.now } } }
+        requires { length bytes.now ≡ picture_size self.old.picture }
+        ensures { self.new ≡ with_bytes self.old bytes.now }
     {
         pieces::write_bytes(&mut self.memory, 0, bytes);
     }
@@ -248,11 +238,7 @@ impl Bitmap {
         requires from_column { fx < from.now.picture.width }
         requires from_row { fy < from.now.picture.height }
         requires config { self.old.picture.config ≡ from.now.picture.config }
-        ensures { self.new ≡ record self.old {
-          picture = record self.old.picture {
-            bytes = overwritten self.old.picture.bytes (pixel_place self.old.picture x y) (pixel_at from.now.picture fx fy);
-          };
-        } }
+        ensures { self.new ≡ with_pixels self.old x y (pixel_at from.now.picture fx fy) }
     {
         self.copy_run(x, y, from, fx, fy, 1);
     }
@@ -264,11 +250,7 @@ impl Bitmap {
         requires from_columns { fx + count ≤ from.now.picture.width }
         requires from_row { fy < from.now.picture.height }
         requires config { self.old.picture.config ≡ from.now.picture.config }
-        ensures { self.new ≡ record self.old {
-          picture = record self.old.picture {
-            bytes = overwritten self.old.picture.bytes (pixel_place self.old.picture x y) (run_at from.now.picture fx fy count);
-          };
-        } }
+        ensures { self.new ≡ with_pixels self.old x y (run_at from.now.picture fx fy count) }
     {
         let at = (y as usize * self.width as usize + x as usize) * self.config.pixel_bytes();
         pieces::write_bytes(&mut self.memory, at, from.run(fx, fy, count));
@@ -281,11 +263,7 @@ impl Bitmap {
         requires from_columns { All (λ fx. fx < from.now.picture.width) columns.now }
         requires from_row { fy < from.now.picture.height }
         requires config { self.old.picture.config ≡ from.now.picture.config }
-        ensures { self.new ≡ record self.old {
-          picture = record self.old.picture {
-            bytes = overwritten self.old.picture.bytes (pixel_place self.old.picture x y) (pixels_at from.now.picture fy columns.now);
-          };
-        } }
+        ensures { self.new ≡ with_pixels self.old x y (pixels_at from.now.picture fy columns.now) }
     {
         let at = (y as usize * self.width as usize + x as usize) * self.config.pixel_bytes();
         let row = fy as usize * from.width() as usize;

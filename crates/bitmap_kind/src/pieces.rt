@@ -98,9 +98,11 @@ pub fn write_columns(
     from: usize,
     columns: &[u32],
 )
-    requires columns { All (λ x. (from + x) * pixel_bytes config + pixel_bytes config ≤ length bytes.now) columns.now }
+    requires columns { All (λ x. (from + x) * pixel_bytes config + pixel_bytes config ≤ length bytes.now)
+        columns.now }
     requires room { at + length columns.now * pixel_bytes config ≤ length memory.old }
-    ensures { memory.new ≡ overwritten memory.old at (flat_map (λ x. take (pixel_bytes config) (drop ((from + x) * pixel_bytes config) bytes.now)) columns.now) }
+    ensures { memory.new ≡ overwritten memory.old at (flat_map
+        (λ x. take (pixel_bytes config) (drop ((from + x) * pixel_bytes config) bytes.now)) columns.now) }
 {
     let end = at + columns.len() * config.pixel_bytes();
     let into = &mut memory[at..end];

@@ -8,11 +8,13 @@ use faults::NoMemory;
 use std::alloc::Global;
 use std::test::Fail;
 
-// The definition itself on worked pixels, computed where the tests are proved. Of (8, 4, 8) each part of 16 bits is 1, and
-// 2048 + 32 + 1 is 0x0821.
+// The definition itself on worked pixels, computed where the tests are proved: red, and a blue of half
+// opacity. Of (8, 4, 8) each part of 16 bits is 1, and 2048 + 32 + 1 is 0x0821.
 fn worked_pixels()
-    ensures argb8888 { stored Config.Argb8888 (255 ∷ 0 ∷ 0 ∷ 255 ∷ 0 ∷ 0 ∷ 255 ∷ 128 ∷ []) ≡ 255 ∷ 0 ∷ 0 ∷ 255 ∷ 0 ∷ 0 ∷ 255 ∷ 128 ∷ [] }
-    ensures rgb565 { stored Config.Rgb565 (255 ∷ 0 ∷ 0 ∷ 255 ∷ 0 ∷ 0 ∷ 255 ∷ 128 ∷ []) ≡ 0x00 ∷ 0xf8 ∷ 0x1f ∷ 0x00 ∷ [] }
+    ensures argb8888 { stored Config.Argb8888 (255 ∷ 0 ∷ 0 ∷ 255 ∷ 0 ∷ 0 ∷ 255 ∷ 128 ∷ [])
+        ≡ 255 ∷ 0 ∷ 0 ∷ 255 ∷ 0 ∷ 0 ∷ 255 ∷ 128 ∷ [] }
+    ensures rgb565 { stored Config.Rgb565 (255 ∷ 0 ∷ 0 ∷ 255 ∷ 0 ∷ 0 ∷ 255 ∷ 128 ∷ [])
+        ≡ 0x00 ∷ 0xf8 ∷ 0x1f ∷ 0x00 ∷ [] }
     ensures parts { stored Config.Rgb565 (8 ∷ 4 ∷ 8 ∷ 0 ∷ []) ≡ 0x21 ∷ 0x08 ∷ [] }
     ensures alpha8 { stored Config.Alpha8 (255 ∷ 0 ∷ 0 ∷ 255 ∷ 0 ∷ 0 ∷ 255 ∷ 128 ∷ []) ≡ 255 ∷ 128 ∷ [] }
 {}
