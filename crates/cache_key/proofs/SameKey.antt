@@ -1,28 +1,15 @@
 -- Two keys are the same exactly where all that they have is equal.
-use Rattle.std.proofs.Common.{◌≡◌, Bool, true, false, refl, subst}
-use Rattle.std.specs.Prelude.{◌&&◌}
+use Rattle.std.proofs.Common.{◌≡◌, Bool, true, eqb, refl, subst}
+use Rattle.std.specs.Str.{bytes_eq}
 use Rattle.std.specs.Bool.{Decides}
-use Rattle.std.proofs.lemmas.Bool.{eqb-true, eq-eqb}
+use Rattle.std.proofs.lemmas.Bool.{eqb-true, eq-eqb, and_parts, and_from}
 use Rattle.std.proofs.lemmas.Slice.Eq.{bytes_eq-Decides}
-use Rattle.bitmap_kind.specs.declared.bitmaps.Config.{Config}
-use Rattle.bitmap_kind.specs.declared.bitmaps.Config.TheVariants.{Argb8888, Rgb565, Alpha8}
 use Rattle.bitmap_kind.specs.declared.bitmaps.Transform.{Transform}
 use Rattle.bitmap_kind.specs.declared.bitmaps.Transform.TheVariants as transforms
 use Rattle.bitmap_kind.specs.declared.bitmaps.Rule.{Rule}
 use Rattle.bitmap_kind.specs.declared.bitmaps.Rule.TheVariants.{AtLeast, AtMost}
 use Rattle.cache_key.specs.Key.{Key, same_key, same_transform, same_config, same_rule}
-
-and_left : (a b : Bool) → (a && b) ≡ true → a ≡ true
-and_left true b e = refl
-and_left false b e = e
-
-and_right : (a b : Bool) → (a && b) ≡ true → b ≡ true
-and_right true b e = e
-and_right false b e = cc
-
-and_both : (a b : Bool) → a ≡ true → b ≡ true → (a && b) ≡ true
-and_both true b e f = f
-and_both false b e f = e
+use Rattle.cache_key.specs.ConfigLaws.{config_is, config_itself}
 
 decided : (b : Bool) (P : Type 0) → Decides b P → b ≡ true → P
 decided b P d e = d.0 e
@@ -54,22 +41,6 @@ transform_itself transforms.Fit = refl
 transform_itself transforms.Crop = refl
 transform_itself transforms.Inside = refl
 
-config_is : (a b : Config) → same_config a b ≡ true → a ≡ b
-config_is Argb8888 Argb8888 e = refl
-config_is Argb8888 Rgb565 e = cc
-config_is Argb8888 Alpha8 e = cc
-config_is Rgb565 Argb8888 e = cc
-config_is Rgb565 Rgb565 e = refl
-config_is Rgb565 Alpha8 e = cc
-config_is Alpha8 Argb8888 e = cc
-config_is Alpha8 Rgb565 e = cc
-config_is Alpha8 Alpha8 e = refl
-
-config_itself : (a : Config) → same_config a a ≡ true
-config_itself Argb8888 = refl
-config_itself Rgb565 = refl
-config_itself Alpha8 = refl
-
 rule_is : (a b : Rule) → same_rule a b ≡ true → a ≡ b
 rule_is AtLeast AtLeast e = refl
 rule_is AtLeast AtMost e = cc
@@ -83,19 +54,24 @@ rule_itself AtMost = refl
 -- one key
 pub same_key-is : (a b : Key) → same_key a b ≡ true → a ≡ b
 same_key-is a b e =
-    let u1 = and_left _ _ e in let u2 = and_left _ _ u1 in let u3 = and_left _ _ u2 in let u4 = and_left _ _ u3 in let u5 = and_left _ _ u4 in
-    let url : a.url ≡ b.url = decided _ _ (bytes_eq-Decides a.url b.url) (and_left _ _ u5) in
-    let sig : a.sig ≡ b.sig = decided _ _ (bytes_eq-Decides a.sig b.sig) (and_right _ _ u5) in
-    let width : a.width ≡ b.width = eqb-true _ _ (and_right _ _ u4) in
-    let height : a.height ≡ b.height = eqb-true _ _ (and_right _ _ u3) in
-    let transform : a.transform ≡ b.transform = transform_is _ _ (and_right _ _ u2) in
-    let config : a.config ≡ b.config = config_is _ _ (and_right _ _ u1) in
-    let rule : a.rule ≡ b.rule = rule_is _ _ (and_right _ _ e) in
+    let with_rule = and_parts _ (same_rule a.rule b.rule) e in
+    let with_config = and_parts _ (same_config a.config b.config) with_rule.0 in
+    let with_transform = and_parts _ (same_transform a.transform b.transform) with_config.0 in
+    let with_height = and_parts _ (eqb a.height b.height) with_transform.0 in
+    let with_width = and_parts _ (eqb a.width b.width) with_height.0 in
+    let texts = and_parts (bytes_eq a.url b.url) (bytes_eq a.sig b.sig) with_width.0 in
+    let url : a.url ≡ b.url = decided _ _ (bytes_eq-Decides a.url b.url) texts.0 in
+    let sig : a.sig ≡ b.sig = decided _ _ (bytes_eq-Decides a.sig b.sig) texts.1 in
+    let width : a.width ≡ b.width = eqb-true _ _ with_width.1 in
+    let height : a.height ≡ b.height = eqb-true _ _ with_height.1 in
+    let transform : a.transform ≡ b.transform = transform_is _ _ with_transform.1 in
+    let config : a.config ≡ b.config = config_is _ _ with_config.1 in
+    let rule : a.rule ≡ b.rule = rule_is _ _ with_rule.1 in
     λ i. record { url = url i; sig = sig i; width = width i; height = height i; transform = transform i; config = config i; rule = rule i }
 
 pub same_key-itself : (a : Key) → same_key a a ≡ true
 same_key-itself a =
-    and_both _ _ (and_both _ _ (and_both _ _ (and_both _ _ (and_both _ _ (and_both _ _
+    and_from _ _ (and_from _ _ (and_from _ _ (and_from _ _ (and_from _ _ (and_from _ _
     (deciding _ _ (bytes_eq-Decides a.url a.url) refl) (deciding _ _ (bytes_eq-Decides a.sig a.sig) refl)) (eq-eqb a.width a.width refl)) (eq-eqb a.height a.height refl))
     (transform_itself a.transform)) (config_itself a.config)) (rule_itself a.rule)
 

@@ -1,4 +1,5 @@
--- The address of a key, and the bytes that stand for its choices in the texts of keys and entries. This project's own.
+-- The address of a key, and the bytes that stand for its choices in the texts of keys and entries. This
+-- project's own.
 use Rattle.std.specs.Prelude.{ℕ, List}
 use Rattle.bitmap_kind.specs.declared.bitmaps.Config.{Config}
 use Rattle.bitmap_kind.specs.declared.bitmaps.Config.TheVariants.{Argb8888, Rgb565, Alpha8}

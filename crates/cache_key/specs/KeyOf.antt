@@ -1,4 +1,4 @@
--- Keys by numbers, as a table of resources shows them. This project's own.
+-- Keys by numbers, as a table of resources shows them.
 use Rattle.std.specs.Ordering.{nat_cmp}
 use Rattle.std.specs.FinMap as map
 use Rattle.cache_key.specs.Key.{Key}

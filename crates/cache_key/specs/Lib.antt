@@ -1,6 +1,11 @@
+pub use Rattle.bitmap_kind.specs.declared.bitmaps.Config
+pub use Rattle.bitmap_kind.specs.declared.bitmaps.Rule
+pub use Rattle.bitmap_kind.specs.declared.bitmaps.Transform
+pub mod ConfigLaws
 pub mod Key
 pub mod KeyBytes
 pub mod KeyOf
+pub mod KeyView
 pub mod Room
 pub mod Size
 pub mod Worked

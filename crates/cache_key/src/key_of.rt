@@ -5,7 +5,7 @@ ghost use Rattle.cache_key.specs.KeyOf.{KeyMap};
 
 use crate::keys::EngineKey;
 
-/// A table that tells the keys of numbers, as the engine's resources do.
+/// A table that has the keys of numbers, as the engine's resources are one.
 pub trait KeyOf {
     ghost keys: { Self → KeyMap };
 

@@ -10,7 +10,8 @@ use faults::NoMemory;
 use std::alloc::Global;
 use std::marker::Model;
 
-/// Room for what a load asks for, which a worker owns and hands in when it takes a job. Contracts see what it shows.
+/// Room for what a load asks for, which a worker owns and hands in when it takes a job. Contracts see what it
+/// shows.
 #[derive(Drop)]
 pub struct KeyRoom {
     spec: LoadSpec,

@@ -1,4 +1,4 @@
-// What a load asks for, by which loads are told apart.
+// What a load asks for, and the key by which loads are the same or differ.
 #![tactic(auto)]
 
 mod key_of;

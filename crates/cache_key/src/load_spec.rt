@@ -1,8 +1,8 @@
 // What a load says besides its key.
 use crate::keys::EngineKey;
 
-/// What the disk cache keeps of a load, after Glide's `DiskCacheStrategy`: `All`, `Source` for its `DATA`, `Results`
-/// for its `RESOURCE`, `Nowhere` for its `NONE`, and `Automatic`, which stands for `Source`.
+/// What the disk cache keeps of a load, after Glide's `DiskCacheStrategy`: `All`, `Source` for its `DATA`,
+/// `Results` for its `RESOURCE`, `Nowhere` for its `NONE`, and `Automatic`, which stands for `Source`.
 #[derive(Clone, Copy, Debug, PartialEq, Eq)]
 pub enum Strategy {
     All,
@@ -21,8 +21,8 @@ pub enum Priority {
     Low,
 }
 
-/// What a load asks for: the picture, what the disk cache keeps, how soon, whether memory is passed over (`skip`), and
-/// whether only what is cached may answer (`cached`).
+/// What a load asks for: the picture, what the disk cache keeps, how soon, whether memory is passed over
+/// (`skip`), and whether only what is cached may answer (`cached`).
 #[derive(Drop)]
 pub struct LoadSpec {
     pub key: EngineKey,

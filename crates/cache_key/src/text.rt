@@ -6,6 +6,7 @@ ghost use Rattle.std.specs.Cmp.Lexicographic.{nat_list_eq_equiv};
 ghost use Rattle.std.specs.Cmp.Rules.{hashing};
 ghost use Rattle.std.specs.Hash as fed;
 ghost use Rattle.std.specs.Str.{bytes_eq};
+ghost use Rattle.cache_key.specs.Key.{url_limit};
 
 use faults::NoMemory;
 use std::alloc::Global;
@@ -15,8 +16,8 @@ use std::marker::Model;
 // The least room of a text, in bytes: that of the longest url, so that any text can be overwritten by one.
 const LEAST_ROOM: usize = 1_024;
 
-/// Bytes of its own: a url, a signature or a name. Contracts see it as the list of its bytes, by which texts are equal and
-/// are keys of a map.
+/// Bytes of its own: a url, a signature or a name. Contracts see it as the list of its bytes, by which texts
+/// are equal and are keys of a map.
 #[derive(Drop)]
 pub struct Text {
     bytes: Vec<u8>,
@@ -24,12 +25,13 @@ pub struct Text {
 
 impl Model for Text {
     ghost use Rattle.std.specs.Prelude.{ℕ, ◌≤◌, List, vec_capacity};
+    ghost use Rattle.cache_key.specs.Key.{url_limit};
 
     ghost Value = { List ℕ };
 
     ghost view = { λ s. s.bytes.items };
 
-    ghost invariant = { λ s. 1024 ≤ vec_capacity s.bytes };
+    ghost invariant = { λ s. url_limit ≤ vec_capacity s.bytes };
 }
 
 impl Text {
@@ -51,7 +53,7 @@ impl Text {
 
     // Overwrites the text. It takes no memory, since each text has room for so many bytes.
     pub(crate) fn overwrite(&mut self, bytes: &[u8])
-        requires { length bytes.now ≤ 1024 }
+        requires { length bytes.now ≤ url_limit }
         ensures { self.new ≡ bytes.now }
     {
         self.bytes.clear();
