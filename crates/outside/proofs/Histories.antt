@@ -5,7 +5,7 @@ use Rattle.std.specs.FinMap.{get, insert}
 use Rattle.std.proofs.Math.Seq.{take-append_seam}
 use Rattle.std.proofs.lemmas.List.{take-append-drop}
 use Rattle.outside.specs.Files.{Folder, FolderHistory, Changes, passed_through, grown, appended, appended_to}
-use Rattle.outside.specs.MemoryFiles.{contents_of, changed, history_of, no_files, stopped, cut_change, IsFrontOf}
+use Rattle.outside.specs.MemoryFiles.{contents_of, changed, history_of, no_files, stopped, cut_change, IsPrefixOf}
 use Rattle.outside.specs.declared.files.FileFault.{FileFault}
 use Rattle.outside.specs.declared.changes.Change.{Change}
 use Rattle.outside.specs.declared.changes.Change.TheVariants.{Made, Appended, Renamed, Deleted, Placed}
@@ -32,7 +32,7 @@ changes_of_call {T} change old new (Err e) is =
 
 -- ---- a stop
 
--- what changes pass through stands behind what was passed through before
+-- what changes pass through stands after what was passed through before
 grows : (h : FolderHistory) (cs : List Change) → (more : List Folder) × ((changed h cs).images ≡ h.images ++ more)
 grows h [] = ([], sym (append-nil h.images))
 grows h (c ∷ cs) =
@@ -53,27 +53,27 @@ appended_cut : (o : Option (List ℕ)) (name bytes : List ℕ) (f : Folder) (n :
 appended_cut None name bytes f n = no_cut n
 appended_cut (Some text) name bytes f n = grown_cut name text bytes f n
 
--- one is a front of the other where something stands behind it
-front : (one whole : FolderHistory) (rest : List Folder) → whole.images ≡ one.images ++ rest → IsFrontOf one whole
-front one whole rest is = sym (ap (take (length one.images)) is ∙ take-append_seam one.images rest)
+-- one is a prefix of the other where something stands after it
+prefix : (one whole : FolderHistory) (rest : List Folder) → whole.images ≡ one.images ++ rest → IsPrefixOf one whole
+prefix one whole rest is = sym (ap (take (length one.images)) is ∙ take-append_seam one.images rest)
 
-cut_behind : (h : FolderHistory) (cs : List Change) (cut : ℕ) → IsFrontOf (changed h (cut_change cut cs)) (changed h cs)
-cut_behind h [] cut = front h h [] (sym (append-nil h.images))
-cut_behind h (Made name ∷ cs) cut = let rest = grows h (Made name ∷ cs) in front h (changed h (Made name ∷ cs)) rest.0 rest.1
-cut_behind h (Appended name bytes ∷ cs) cut =
+cut_after : (h : FolderHistory) (cs : List Change) (cut : ℕ) → IsPrefixOf (changed h (cut_change cut cs)) (changed h cs)
+cut_after h [] cut = prefix h h [] (sym (append-nil h.images))
+cut_after h (Made name ∷ cs) cut = let rest = grows h (Made name ∷ cs) in prefix h (changed h (Made name ∷ cs)) rest.0 rest.1
+cut_after h (Appended name bytes ∷ cs) cut =
     let whole = appended name bytes h.held in
     let rest = grows (passed_through whole h) cs in
-    front (passed_through (appended name (take cut bytes) h.held) h) (changed (passed_through whole h) cs) (drop cut whole ++ rest.0)
+    prefix (passed_through (appended name (take cut bytes) h.held) h) (changed (passed_through whole h) cs) (drop cut whole ++ rest.0)
     (rest.1
     ∙ ap (λ l. (h.images ++ l) ++ rest.0) (sym (take-append-drop cut whole) ∙ ap (λ l. l ++ drop cut whole) (sym (appended_cut (get h.held name) name bytes h.held cut)))
     ∙ ap (λ l. l ++ rest.0) (sym (append_assoc h.images (appended name (take cut bytes) h.held) (drop cut whole)))
     ∙ append_assoc (h.images ++ appended name (take cut bytes) h.held) (drop cut whole) rest.0)
-cut_behind h (Renamed from to ∷ cs) cut = let rest = grows h (Renamed from to ∷ cs) in front h (changed h (Renamed from to ∷ cs)) rest.0 rest.1
-cut_behind h (Deleted name ∷ cs) cut = let rest = grows h (Deleted name ∷ cs) in front h (changed h (Deleted name ∷ cs)) rest.0 rest.1
-cut_behind h (Placed name bytes ∷ cs) cut = let rest = grows h (Placed name bytes ∷ cs) in front h (changed h (Placed name bytes ∷ cs)) rest.0 rest.1
+cut_after h (Renamed from to ∷ cs) cut = let rest = grows h (Renamed from to ∷ cs) in prefix h (changed h (Renamed from to ∷ cs)) rest.0 rest.1
+cut_after h (Deleted name ∷ cs) cut = let rest = grows h (Deleted name ∷ cs) in prefix h (changed h (Deleted name ∷ cs)) rest.0 rest.1
+cut_after h (Placed name bytes ∷ cs) cut = let rest = grows h (Placed name bytes ∷ cs) in prefix h (changed h (Placed name bytes ∷ cs)) rest.0 rest.1
 
-pub front_of_stopped : (count cut : ℕ) (cs : List Change) → IsFrontOf (history_of (stopped count cut cs)) (history_of cs)
-front_of_stopped count cut cs =
-    subst (λ h. IsFrontOf h (history_of cs)) (sym (changed-append no_files (take count cs) (cut_change cut (drop count cs))))
-    (subst (IsFrontOf (changed (history_of (take count cs)) (cut_change cut (drop count cs)))) (sym (changed-append no_files (take count cs) (drop count cs)) ∙ ap history_of (take-append-drop count cs))
-    (cut_behind (history_of (take count cs)) (drop count cs) cut))
+pub prefix_of_stopped : (count cut : ℕ) (cs : List Change) → IsPrefixOf (history_of (stopped count cut cs)) (history_of cs)
+prefix_of_stopped count cut cs =
+    subst (λ h. IsPrefixOf h (history_of cs)) (sym (changed-append no_files (take count cs) (cut_change cut (drop count cs))))
+    (subst (IsPrefixOf (changed (history_of (take count cs)) (cut_change cut (drop count cs)))) (sym (changed-append no_files (take count cs) (drop count cs)) ∙ ap history_of (take-append-drop count cs))
+    (cut_after (history_of (take count cs)) (drop count cs) cut))

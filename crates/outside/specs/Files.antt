@@ -1,5 +1,6 @@
--- A folder of files, and the contents that its calls pass through. All of it is this project's own, after what
--- POSIX says of its calls: a rename is one step, and a write that is interrupted has written a front of its bytes.
+-- A folder of files, and the contents that its calls pass through. All of it is this project's own, after
+-- what POSIX says of its calls: a rename is one step, and a write that is interrupted has written a prefix of
+-- its bytes.
 use Rattle.std.specs.Prelude.{◌≡◌, ℕ, ◌≤◌, List, [], ◌∷◌, ◌++◌, length, take, drop, Some, None, Result, Err, IsOk, IfOk, IsSomeAnd, is_some, if◌then◌else◌}
 use Rattle.std.specs.declared.option.Option.{Option}
 use Rattle.std.specs.Ordering.{nat_cmp}
@@ -14,8 +15,8 @@ use Rattle.outside.specs.declared.files.FileFault.TheVariants.{Memory}
 abbrev pub Folder : Type 0
 Folder = FinMap (slice_cmp nat_cmp) (List ℕ)
 
--- what a folder holds now, and what it held after each change since its object was made: what a stop of the process
--- may have left
+-- what a folder holds now, and what it held after each change since its object was made: what a stop of the
+-- process may have left
 pub record FolderHistory : Type 0 where
   pub held : Folder
   pub images : List Folder
@@ -27,7 +28,10 @@ last_of folder (next ∷ more) = last_of next more
 
 -- the folder passed through these contents, one after the other
 abbrev pub passed_through : List Folder → FolderHistory → FolderHistory
-passed_through contents history = record { held = last_of history.held contents; images = history.images ++ contents }
+passed_through contents history = record {
+  held = last_of history.held contents;
+  images = history.images ++ contents;
+}
 
 -- ---- the contents that each call passes through; the last is what it leaves
 
@@ -38,7 +42,8 @@ made name folder = insert folder name [] ∷ []
 -- a file of these bytes that grows by one byte after the other
 abbrev pub grown : List ℕ → List ℕ → List ℕ → Folder → List Folder
 grown name text [] folder = []
-grown name text (byte ∷ bytes) folder = insert folder name (text ++ byte ∷ []) ∷ grown name (text ++ byte ∷ []) bytes folder
+grown name text (byte ∷ bytes) folder =
+    insert folder name (text ++ byte ∷ []) ∷ grown name (text ++ byte ∷ []) bytes folder
 
 -- the file of the name with the bytes at its end, where there is such a file
 abbrev pub appended_to : Option (List ℕ) → List ℕ → List ℕ → Folder → List Folder
@@ -62,30 +67,36 @@ deleted name folder = if is_some (get folder name) then remove folder name ∷ [
 
 -- ---- what a call does
 
--- A call that changes files goes through a front of the contents that it could pass through: all of them where it
--- succeeds, and none where it wants memory.
-pub record Passes {T : Type 0} (contents : List Folder) (before : FolderHistory) (after : Option FolderHistory) (result : Result T FileFault) : Type 0 where
+-- A call that changes files goes through a prefix of the contents that it could pass through: all of them
+-- where it succeeds, and none where it wants memory.
+pub record Passes {T : Type 0}
+    (contents : List Folder) (before : FolderHistory) (after : Option FolderHistory)
+    (result : Result T FileFault) : Type 0 where
   pub count : ℕ
   pub after_is : after ≡ Some (passed_through (take count contents) before)
   pub whole : IsOk result → take count contents ≡ contents
   pub none : result ≡ Err Memory → take count contents ≡ []
 
--- The same of files that tell what they hold, or don't; those that don't never do. `contents` says by what is held
--- which contents the call could pass through.
-abbrev pub Changes : {T : Type 0} → (Folder → List Folder) → Option FolderHistory → Option FolderHistory → Result T FileFault → Type 0
+-- The same of files of which it is known what they hold, or not known before and after the call. `contents`
+-- says by what is held which contents the call could pass through.
+abbrev pub Changes : {T : Type 0} → (Folder → List Folder) → Option FolderHistory → Option FolderHistory
+    → Result T FileFault → Type 0
 Changes contents None after result = after ≡ None
 Changes contents (Some before) after result = Passes (contents before.held) before after result
 
--- an answer about what is held, where that is told and the call succeeds
-abbrev pub Tells : {T : Type 0} → Option FolderHistory → Result T FileFault → (Folder → T → Type 0) → Type 0
-Tells told result says = (history : FolderHistory) → told ≡ Some history → IfOk result (says history.held)
+-- an answer about what is held, where that is known and the call succeeds
+abbrev pub WhereKnown : {T : Type 0} → Option FolderHistory → Result T FileFault → (Folder → T → Type 0)
+    → Type 0
+WhereKnown known result says =
+    (history : FolderHistory) → known ≡ Some history → IfOk result (says history.held)
 
 -- the names that are held, each once
 pub record IsListing (names : List (List ℕ)) (folder : Folder) : Type 0 where
   pub once : IsDistinct bytes_eq names
   pub held : (name : List ℕ) → list_any (bytes_eq name) names ≡ is_some (get folder name)
 
--- What a read at a place of a file moved into a slice: the next bytes of the file, and 0 of them only at or past its end.
+-- What a read at a place of a file moved into a slice: the next bytes of the file, and 0 of them only at or
+-- past its end.
 pub record Reads (text : List ℕ) (at count : ℕ) (old new : List ℕ) : Type 0 where
   pub fits : count ≤ length old
   pub bytes : take count new ≡ take count (drop at text)

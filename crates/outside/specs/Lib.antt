@@ -1,3 +1,4 @@
+pub use Rattle.faults.specs.declared.Failed
 pub mod Calls
 pub mod Causes
 pub mod Content
@@ -12,3 +13,4 @@ pub mod Names
 pub mod RealStreams
 pub mod Stored
 pub mod Texts
+pub mod Worked

@@ -1,8 +1,8 @@
--- Files in memory: the changes that were made to them, what these leave, and which calls fail. It is this project's own.
-use Rattle.std.specs.Prelude.{◌≡◌, ℕ, ◌≤◌, ◌↔◌, List, [], ◌∷◌, ◌++◌, length, take, drop, Ok, Err, Result, is_ok, if◌then◌else◌}
+-- Files in memory: the changes that were made to them, what these leave, and which calls fail.
+use Rattle.std.specs.Prelude.{◌≡◌, ℕ, ◌≤◌, ◌↔◌, List, [], ◌∷◌, ◌++◌, length, take, drop, Ok, Err, Some, Result, is_ok, if◌then◌else◌}
 use Rattle.std.specs.FinMap.{empty, insert}
 use Rattle.outside.specs.Calls.{CallCount, FailsNext, no_calls, after_call, after_failure}
-use Rattle.outside.specs.Files.{Folder, FolderHistory, passed_through, made, appended, renamed, deleted}
+use Rattle.outside.specs.Files.{Folder, FolderHistory, Changes, passed_through, made, appended, renamed, deleted}
 use Rattle.outside.specs.declared.changes.Change.{Change}
 use Rattle.outside.specs.declared.changes.Change.TheVariants.{Made, Appended, Renamed, Deleted, Placed}
 use Rattle.outside.specs.declared.files.FileFault.{FileFault}
@@ -27,14 +27,19 @@ contents_of (Placed name bytes) folder = insert folder name bytes ∷ []
 abbrev pub no_files : FolderHistory
 no_files = record { held = empty; images = [] }
 
--- a history, and behind it some changes
+-- a history, and after it some changes
 abbrev pub changed : FolderHistory → List Change → FolderHistory
 changed history [] = history
-changed history (change ∷ changes) = changed (passed_through (contents_of change history.held) history) changes
+changed history (change ∷ changes) =
+    changed (passed_through (contents_of change history.held) history) changes
 
 -- what is held after some changes, and what was held in between
 abbrev pub history_of : List Change → FolderHistory
 history_of = changed no_files
+
+-- what files hold now
+abbrev pub held_by : FilesState → Folder
+held_by files = (history_of files.changes).held
 
 -- ---- what a call does
 
@@ -45,10 +50,17 @@ after_file_call (Err Failed) calls = after_failure calls
 after_file_call (Err Memory) calls = after_call calls
 
 -- A call makes its changes where it succeeds, and else none. It fails exactly where its number is listed.
-pub record MakesCall {T : Type 0} (changes : List Change) (old new : FilesState) (result : Result T FileFault) : Type 0 where
+pub record MakesCall {T : Type 0}
+    (changes : List Change) (old new : FilesState) (result : Result T FileFault) : Type 0 where
   pub changed : new.changes ≡ old.changes ++ (if is_ok result then changes else [])
   pub listed : (result ≡ Err Failed) ↔ FailsNext old.calls
   pub counted : new.calls ≡ after_file_call result old.calls
+
+-- a call that changes files goes through these contents, by what they hold
+abbrev pub ChangesBy : {T : Type 0} → (Folder → List Folder) → FilesState → FilesState → Result T FileFault
+    → Type 0
+ChangesBy contents old new result =
+    Changes contents (Some (history_of old.changes)) (Some (history_of new.changes)) result
 
 -- ---- a stop within the changes
 
@@ -70,7 +82,7 @@ cut_change cut (Renamed from to ∷ changes) = []
 cut_change cut (Deleted name ∷ changes) = []
 cut_change cut (Placed name bytes ∷ changes) = []
 
--- a stop behind so many whole changes, with so many bytes of the next one appended
+-- a stop after so many whole changes, with so many bytes of the next one appended
 abbrev pub IsStop : ℕ → ℕ → List Change → Type 0
 IsStop count cut changes = (count ≤ length changes) × (cut ≤ next_length (drop count changes))
 
@@ -81,6 +93,6 @@ stopped count cut changes = take count changes ++ cut_change cut (drop count cha
 abbrev pub no_changes : List ℕ → FilesState
 no_changes failing = record { changes = []; calls = no_calls failing }
 
--- a history that stopped earlier: what it passed through is a front of what the whole one passed through
-abbrev pub IsFrontOf : FolderHistory → FolderHistory → Type 0
-IsFrontOf front whole = front.images ≡ take (length front.images) whole.images
+-- a history that stopped earlier: what it passed through is a prefix of what the whole one passed through
+abbrev pub IsPrefixOf : FolderHistory → FolderHistory → Type 0
+IsPrefixOf prefix whole = prefix.images ≡ take (length prefix.images) whole.images

@@ -105,7 +105,7 @@ fn cut_change(alloc: Global, changes: &[Change], cut: usize) -> Result<Option<Ch
     }
 }
 
-/// The first `count` changes, and behind them the first `cut` bytes of what the next one appends.
+/// The first `count` changes, and after them the first `cut` bytes of what the next one appends.
 pub fn stopped(
     alloc: Global,
     changes: &[Change],

@@ -1,7 +1,9 @@
-// What no clause of files in memory says: that calls succeed with ample memory, and which call a number names.
+// What no clause of files in memory says: that calls succeed with ample memory, and which call a number
+// names.
 ghost use Rattle.std.specs.Prelude.{◌≡◌, ◌∷◌, [], codes};
 ghost use Rattle.outside.specs.MemoryFiles.{stopped};
-ghost use Rattle.outside.specs.declared.changes.Change.TheVariants.{Made, Appended, Deleted};
+ghost use Rattle.outside.specs.Worked.{three_changes};
+ghost use Rattle.outside.specs.declared.changes.Change.TheVariants.{Made, Appended};
 
 use crate::{FileFault, Files, MemoryFiles, Name};
 use std::alloc::Global;
@@ -9,10 +11,8 @@ use std::test::Fail;
 
 // The definition of a stop on worked changes, computed where the tests are proved.
 fn worked_stops()
-    ensures whole { stopped 2 0 (Made (codes "a") ∷ Appended (codes "a") (codes "xyz") ∷ Deleted (codes "a") ∷ [])
-        ≡ Made (codes "a") ∷ Appended (codes "a") (codes "xyz") ∷ [] }
-    ensures cut { stopped 1 2 (Made (codes "a") ∷ Appended (codes "a") (codes "xyz") ∷ Deleted (codes "a") ∷ [])
-        ≡ Made (codes "a") ∷ Appended (codes "a") (codes "xy") ∷ [] }
+    ensures whole { stopped 2 0 three_changes ≡ Made (codes "a") ∷ Appended (codes "a") (codes "xyz") ∷ [] }
+    ensures cut { stopped 1 2 three_changes ≡ Made (codes "a") ∷ Appended (codes "a") (codes "xy") ∷ [] }
     ensures all { stopped 1 0 (Made (codes "a") ∷ []) ≡ Made (codes "a") ∷ [] }
 {}
 

@@ -3,10 +3,9 @@ ghost use Rattle.std.specs.Prelude.{◌≡◌, ◌≢◌, ◌<◌, ◌≤◌, �
 ghost use Rattle.std.specs.Option.{option_map};
 ghost use Rattle.std.specs.Result.{result_unwrap_or};
 ghost use Rattle.std.specs.FinMap.{get};
-ghost use Rattle.outside.specs.Calls.{FailsNext, no_calls};
-ghost use Rattle.outside.specs.Causes.{HasCause};
-ghost use Rattle.outside.specs.Files.{FolderHistory, Changes, Tells, IsListing, Reads, ReadsFile, made, appended, renamed, deleted};
-ghost use Rattle.outside.specs.MemoryFiles.{history_of, no_changes, after_file_call, MakesCall, IsStop, IsFrontOf, next_length, stopped};
+ghost use Rattle.outside.specs.Calls.{FailsNext, Caused, no_calls};
+ghost use Rattle.outside.specs.Files.{FolderHistory, WhereKnown, IsListing, Reads, ReadsFile, made, appended, renamed, deleted};
+ghost use Rattle.outside.specs.MemoryFiles.{history_of, held_by, no_changes, after_file_call, MakesCall, ChangesBy, IsStop, IsPrefixOf, next_length, stopped};
 ghost use Rattle.outside.specs.declared.changes.Change.{Change};
 ghost use Rattle.outside.specs.declared.changes.Change.TheVariants.{Made, Appended, Renamed, Deleted, Placed};
 
@@ -97,7 +96,9 @@ impl MemoryFiles {
     /// Puts a file with these bytes there at once, in the place of one of its name. This is one change, and
     /// no call of `Files`: it has no number and does not fail.
     pub fn put(&mut self, alloc: Global, name: &Name, bytes: &[u8]) -> Result<(), NoMemory>
-        ensures ok { OnOk result (self.new ≡ record self.old { changes = self.old.changes ++ Placed name.now bytes.now ∷ [] }) }
+        ensures ok { OnOk result (self.new ≡ record self.old {
+          changes = self.old.changes ++ Placed name.now bytes.now ∷ [];
+        }) }
         ensures err { OnErr result (self.new ≡ self.old) }
     {
         let copy = FileBytes::new(bytes.to_vec(alloc)?);
@@ -105,7 +106,7 @@ impl MemoryFiles {
     }
 
     /// The files after the first `change` whole changes and `cut` bytes of what the next one appends: what a
-    /// stop of the process there would have left. `changes` and `appended` tell which of these there are. No
+    /// stop of the process there would have left. `changes` and `appended` say which of these there are. No
     /// call was made on the files that come back.
     pub fn image(&self, alloc: Global, change: usize, cut: usize) -> Result<MemoryFiles, NoMemory>
         requires { IsStop change cut self.now.changes }
@@ -113,7 +114,8 @@ impl MemoryFiles {
           changes = stopped change cut self.now.changes;
           calls = no_calls [];
         }) }
-        ensures front { IfOk result (λ files. IsFrontOf (history_of files.changes) (history_of self.now.changes)) }
+        ensures prefix { IfOk result
+            (λ files. IsPrefixOf (history_of files.changes) (history_of self.now.changes)) }
     {
         let made = stopped(alloc, &self.changes, change, cut)?;
         Ok(MemoryFiles::of_changes(alloc, made)?)
@@ -146,7 +148,7 @@ impl MemoryFiles {
         ensures changes { self.new.changes ≡ self.old.changes }
         ensures listed { (result ≡ Err FileFault.Failed) ↔ FailsNext self.old.calls }
         ensures counted { self.new.calls ≡ after_file_call result self.old.calls }
-        ensures cause { HasCause self.old.calls.faults self.new.calls.faults (result ≡ Err FileFault.Failed) }
+        ensures cause { Caused self.old.calls self.new.calls (result ≡ Err FileFault.Failed) }
         ensures fault { result ≢ Err FileFault.Memory }
     {
         if self.calls.fails_next() {
@@ -160,7 +162,7 @@ impl MemoryFiles {
     // A call of `Files` that makes a change.
     fn call(&mut self, alloc: Global, change: Change) -> Result<(), FileFault>
         ensures call { MakesCall (change ∷ []) self.old self.new result }
-        ensures cause { HasCause self.old.calls.faults self.new.calls.faults (result ≡ Err FileFault.Failed) }
+        ensures cause { Caused self.old.calls self.new.calls (result ≡ Err FileFault.Failed) }
     {
         self.count_call()?;
         self.make_change(alloc, change)?;
@@ -169,7 +171,9 @@ impl MemoryFiles {
 
     // Copies bytes and appends them.
     fn append_copy(&mut self, alloc: Global, name: &Name, bytes: &[u8]) -> Result<(), AllocError>
-        ensures ok { OnOk result (self.new ≡ record self.old { changes = self.old.changes ++ Appended name.now bytes.now ∷ [] }) }
+        ensures ok { OnOk result (self.new ≡ record self.old {
+          changes = self.old.changes ++ Appended name.now bytes.now ∷ [];
+        }) }
         ensures err { OnErr result (self.new ≡ self.old) }
     {
         let copy = FileBytes::new(bytes.to_vec(alloc)?);
@@ -183,10 +187,10 @@ impl Files for MemoryFiles {
     ghost faults = { λ s. s.calls.faults };
 
     fn names(&mut self, alloc: Global) -> Result<Vec<Name>, FileFault>
-        ensures names { IfOk result (λ names. IsListing names.items (history_of self.old.changes).held) }
+        ensures names { IfOk result (λ names. IsListing names.items (held_by self.old)) }
         ensures same { self.new.changes ≡ self.old.changes }
         ensures call { MakesCall [] self.old self.new result }
-        ensures cause { HasCause self.old.calls.faults self.new.calls.faults (result ≡ Err FileFault.Failed) }
+        ensures cause { Caused self.old.calls self.new.calls (result ≡ Err FileFault.Failed) }
     {
         self.count_call()?;
         Ok(names_of(alloc, &self.files)?)
@@ -194,10 +198,10 @@ impl Files for MemoryFiles {
 
     fn length(&mut self, _alloc: Global, name: &Name) -> Result<Option<u64>, FileFault>
         ensures length { IfOk result (λ found.
-            found ≡ option_map length (get (history_of self.old.changes).held name.now)) }
+            found ≡ option_map length (get (held_by self.old) name.now)) }
         ensures same { self.new.changes ≡ self.old.changes }
         ensures call { MakesCall [] self.old self.new result }
-        ensures cause { HasCause self.old.calls.faults self.new.calls.faults (result ≡ Err FileFault.Failed) }
+        ensures cause { Caused self.old.calls self.new.calls (result ≡ Err FileFault.Failed) }
     {
         self.count_call()?;
         let bytes = bytes_at(&self.files, name);
@@ -213,10 +217,10 @@ impl Files for MemoryFiles {
     ) -> Result<Option<usize>, FileFault>
         requires { 0 < length into.old }
         ensures bytes { IfOk result (λ count.
-            ReadsFile (get (history_of self.old.changes).held name.now) at count into.old into.new) }
+            ReadsFile (get (held_by self.old) name.now) at count into.old into.new) }
         ensures same { self.new.changes ≡ self.old.changes }
         ensures call { MakesCall [] self.old self.new result }
-        ensures cause { HasCause self.old.calls.faults self.new.calls.faults (result ≡ Err FileFault.Failed) }
+        ensures cause { Caused self.old.calls self.new.calls (result ≡ Err FileFault.Failed) }
     {
         self.count_call()?;
         match bytes_at(&self.files, name) {
@@ -226,17 +230,17 @@ impl Files for MemoryFiles {
     }
 
     fn make(&mut self, alloc: Global, name: &Name) -> Result<(), FileFault>
-        ensures files { Changes (made name.now) (Some (history_of self.old.changes)) (Some (history_of self.new.changes)) result }
+        ensures files { ChangesBy (made name.now) self.old self.new result }
         ensures call { MakesCall (Made name.now ∷ []) self.old self.new result }
-        ensures cause { HasCause self.old.calls.faults self.new.calls.faults (result ≡ Err FileFault.Failed) }
+        ensures cause { Caused self.old.calls self.new.calls (result ≡ Err FileFault.Failed) }
     {
         self.call(alloc, Change::Made(*name))
     }
 
     fn append(&mut self, alloc: Global, name: &Name, bytes: &[u8]) -> Result<(), FileFault>
-        ensures files { Changes (appended name.now bytes.now) (Some (history_of self.old.changes)) (Some (history_of self.new.changes)) result }
+        ensures files { ChangesBy (appended name.now bytes.now) self.old self.new result }
         ensures call { MakesCall (Appended name.now bytes.now ∷ []) self.old self.new result }
-        ensures cause { HasCause self.old.calls.faults self.new.calls.faults (result ≡ Err FileFault.Failed) }
+        ensures cause { Caused self.old.calls self.new.calls (result ≡ Err FileFault.Failed) }
     {
         self.count_call()?;
         self.append_copy(alloc, name, bytes)?;
@@ -244,11 +248,11 @@ impl Files for MemoryFiles {
     }
 
     fn rename(&mut self, alloc: Global, from: &Name, to: &Name) -> Result<bool, FileFault>
-        ensures found { IfOk result (λ found. found ≡ is_some (get (history_of self.old.changes).held from.now)) }
-        ensures files { Changes (renamed from.now to.now) (Some (history_of self.old.changes)) (Some (history_of self.new.changes)) result }
+        ensures found { IfOk result (λ found. found ≡ is_some (get (held_by self.old) from.now)) }
+        ensures files { ChangesBy (renamed from.now to.now) self.old self.new result }
         ensures call { MakesCall (if result_unwrap_or result false then Renamed from.now to.now ∷ [] else [])
             self.old self.new result }
-        ensures cause { HasCause self.old.calls.faults self.new.calls.faults (result ≡ Err FileFault.Failed) }
+        ensures cause { Caused self.old.calls self.new.calls (result ≡ Err FileFault.Failed) }
     {
         if bytes_at(&self.files, from).is_none() {
             self.count_call()?;
@@ -259,11 +263,11 @@ impl Files for MemoryFiles {
     }
 
     fn delete(&mut self, alloc: Global, name: &Name) -> Result<bool, FileFault>
-        ensures found { IfOk result (λ found. found ≡ is_some (get (history_of self.old.changes).held name.now)) }
-        ensures files { Changes (deleted name.now) (Some (history_of self.old.changes)) (Some (history_of self.new.changes)) result }
+        ensures found { IfOk result (λ found. found ≡ is_some (get (held_by self.old) name.now)) }
+        ensures files { ChangesBy (deleted name.now) self.old self.new result }
         ensures call { MakesCall (if result_unwrap_or result false then Deleted name.now ∷ [] else [])
             self.old self.new result }
-        ensures cause { HasCause self.old.calls.faults self.new.calls.faults (result ≡ Err FileFault.Failed) }
+        ensures cause { Caused self.old.calls self.new.calls (result ≡ Err FileFault.Failed) }
     {
         if bytes_at(&self.files, name).is_none() {
             self.count_call()?;

@@ -30,7 +30,10 @@ impl Model for Name {
 
     ghost inverse = { λ v. record { bytes = padded v; count = length v } };
 
-    ghost inverse_ok = { λ n h. λ i. record { bytes = (padded_back n.bytes n.count h).0 i; count = (padded_back n.bytes n.count h).1 i } };
+    ghost inverse_ok = { λ n h. λ i. record {
+      bytes = (padded_back n.bytes n.count h).0 i;
+      count = (padded_back n.bytes n.count h).1 i;
+    } };
 }
 
 // The bytes, and zeros up to the size of a name's array.

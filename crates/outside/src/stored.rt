@@ -5,9 +5,9 @@ ghost use Rattle.std.specs.Ordering.{nat_cmp};
 ghost use Rattle.std.specs.Cmp.Lexicographic.{slice_cmp};
 ghost use Rattle.std.specs.BTreeMap.{keys, IsOrdered};
 ghost use Rattle.std.specs.FinMap.{get, insert, remove};
-ghost use Rattle.outside.specs.Files.{last_of, appended, renamed};
+ghost use Rattle.outside.specs.Files.{appended, renamed};
 ghost use Rattle.outside.specs.MemoryFiles.{contents_of};
-ghost use Rattle.outside.specs.Stored.{folder_of};
+ghost use Rattle.outside.specs.Stored.{folder_of, LeavesLast};
 
 use crate::changes::{Change, FileBytes};
 use crate::names::Name;
@@ -35,7 +35,8 @@ pub fn names_of(alloc: Global, files: &StoredFiles) -> Result<Vec<Name>, AllocEr
 
 // Puts a file in the place of one of its name.
 fn put(files: &mut StoredFiles, name: &Name, bytes: FileBytes) -> Result<(), AllocError>
-    ensures ok { OnOk result (folder_of files.new.entries ≡ insert (folder_of files.old.entries) name.now bytes) }
+    ensures ok { OnOk result
+        (folder_of files.new.entries ≡ insert (folder_of files.old.entries) name.now bytes) }
     ensures err { OnErr result (files.new.entries ≡ files.old.entries) }
     ensures absent { OnErr result (get (folder_of files.old.entries) name.now ≡ None) }
 {
@@ -45,7 +46,7 @@ fn put(files: &mut StoredFiles, name: &Name, bytes: FileBytes) -> Result<(), All
 
 // Adds bytes to the file of the name, where there is one.
 fn extend(files: &mut StoredFiles, name: &Name, bytes: &[u8]) -> Result<(), AllocError>
-    ensures ok { OnOk result (folder_of files.new.entries ≡ last_of (folder_of files.old.entries) (appended name.now bytes.now (folder_of files.old.entries))) }
+    ensures ok { OnOk result (LeavesLast files.old.entries files.new.entries (appended name.now bytes.now)) }
     ensures err { OnErr result (files.new.entries ≡ files.old.entries) }
 {
     let Some(file) = files.get_mut(name) else {
@@ -66,17 +67,17 @@ fn forget(files: &mut StoredFiles, name: &Name) -> Option<FileBytes>
 fn move_file(files: &mut StoredFiles, from: &Name, to: &Name)
     requires apart { to.now ≢ from.now }
     requires to_held { IsSome (get (folder_of files.old.entries) to.now) }
-    ensures { folder_of files.new.entries ≡ last_of (folder_of files.old.entries) (renamed from.now to.now (folder_of files.old.entries)) }
+    ensures { LeavesLast files.old.entries files.new.entries (renamed from.now to.now) }
 {
     if let Some(bytes) = forget(files, from) {
         let _ = put(files, to, bytes);
     }
 }
 
-// Gives the file of the first name the second one, where there is such a file. Room for the second name is made
-// first, since nothing may fail once the first has lost its file.
+// Gives the file of the first name the second one, where there is such a file. Room for the second name is
+// made first, since nothing may fail once the first has lost its file.
 fn rename(alloc: Global, files: &mut StoredFiles, from: &Name, to: &Name) -> Result<(), AllocError>
-    ensures ok { OnOk result (folder_of files.new.entries ≡ last_of (folder_of files.old.entries) (renamed from.now to.now (folder_of files.old.entries))) }
+    ensures ok { OnOk result (LeavesLast files.old.entries files.new.entries (renamed from.now to.now)) }
     ensures err { OnErr result (files.new.entries ≡ files.old.entries) }
 {
     if from == to {
@@ -96,7 +97,7 @@ pub fn make_change(
     files: &mut StoredFiles,
     change: &Change,
 ) -> Result<(), AllocError>
-    ensures ok { OnOk result (folder_of files.new.entries ≡ last_of (folder_of files.old.entries) (contents_of change.now (folder_of files.old.entries))) }
+    ensures ok { OnOk result (LeavesLast files.old.entries files.new.entries (contents_of change.now)) }
     ensures err { OnErr result (files.new.entries ≡ files.old.entries) }
 {
     match change {

@@ -3,7 +3,8 @@
 ghost use Rattle.std.specs.Prelude.{◌≡◌, ◌∷◌, [], codes, Some, None, IfOk, true, false};
 ghost use Rattle.std.specs.FinMap.{get};
 ghost use Rattle.outside.specs.FolderPath.{is_path};
-ghost use Rattle.outside.specs.Texts.{ContentBytes, contents_of};
+ghost use Rattle.outside.specs.Texts.{contents_of};
+ghost use Rattle.outside.specs.Worked.{red_text};
 
 use crate::{
     Content, Failed, FetchFault, FolderSource, Input, MemoryInput, MemorySink, MemorySource,
@@ -28,9 +29,11 @@ fn worked_paths()
 
 // And on worked texts: of two at one address the first counts.
 fn worked_contents()
-    ensures found { get (contents_of (record { url = codes "red"; sig = codes "1"; bytes = 1 ∷ [] } ∷ record { url = codes "red"; sig = codes "2"; bytes = 2 ∷ [] } ∷ [])) (codes "red", codes "2") ≡ Some (2 ∷ []) }
-    ensures first { get (contents_of (record { url = codes "red"; sig = codes "1"; bytes = 1 ∷ [] } ∷ record { url = codes "red"; sig = codes "1"; bytes = 2 ∷ [] } ∷ [])) (codes "red", codes "1") ≡ Some (1 ∷ []) }
-    ensures missing { get (contents_of (record { url = codes "red"; sig = codes "1"; bytes = 1 ∷ [] } ∷ [])) (codes "red", codes "2") ≡ None }
+    ensures found { get (contents_of (red_text (codes "1") 1 ∷ red_text (codes "2") 2 ∷ []))
+        (codes "red", codes "2") ≡ Some (2 ∷ []) }
+    ensures first { get (contents_of (red_text (codes "1") 1 ∷ red_text (codes "1") 2 ∷ []))
+        (codes "red", codes "1") ≡ Some (1 ∷ []) }
+    ensures missing { get (contents_of (red_text (codes "1") 1 ∷ [])) (codes "red", codes "2") ≡ None }
 {}
 
 #[test]
@@ -214,8 +217,8 @@ fn make_sparse(rt: &HostRuntime, folder: &str, name: &str, length: usize) -> Res
     Ok(())
 }
 
-// A folder with the picture `images/red.ppm`, `long` of 300,000 bytes, `empty`, `longest` of as many bytes as a file may
-// have, and `huge`, which has one more.
+// A folder with the picture `images/red.ppm`, `long` of 300,000 bytes, `empty`, `longest` of as many bytes as
+// a file may have, and `huge`, which has one more.
 fn make_folder(rt: &HostRuntime, folder: &str) -> Result<(), Fail> {
     let alloc = rt.alloc();
     fs::create_dir_all(rt, format!(in alloc; "{folder}/images")?.as_str())?;
