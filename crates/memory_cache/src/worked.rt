@@ -1,6 +1,6 @@
 // The cache on worked examples: these contracts are proved by computing the definitions, and no code is run.
-ghost use Rattle.std.specs.Prelude.{◌≡◌, [], ◌∷◌, Some, None, true, false};
-ghost use Rattle.memory_cache.specs.Cache.{is_too_large, has_number, without};
+ghost use Rattle.std.specs.Prelude.{◌≡◌, [], ◌∷◌, Some, None, true, false, length, replicate};
+ghost use Rattle.memory_cache.specs.Cache.{is_too_large, is_over, size_in, cache_kept, has_number, without};
 ghost use Rattle.memory_cache.specs.Worked.{Cuts, GivesUp};
 
 // A size that is as large as the maximum is too large; the eldest goes while the cache is over, and one that is just within
@@ -21,4 +21,11 @@ fn worked_removal()
     ensures there { has_number 2 ((3, 100) ∷ (2, 7) ∷ (1, 100) ∷ []) ≡ true }
     ensures absent { has_number 100 ((3, 100) ∷ (2, 7) ∷ (1, 100) ∷ []) ≡ false }
     ensures left { without 2 ((3, 100) ∷ (2, 7) ∷ (1, 100) ∷ []) ≡ (3, 100) ∷ (1, 100) ∷ [] }
+{}
+
+// The limit on items: 1,024 of them are not too many, and one more is; it is then cut to 1,024.
+fn worked_limit()
+    ensures at { is_over size_in 9 (replicate 1024 (7, 0)) ≡ false }
+    ensures past { is_over size_in 9 (replicate 1025 (7, 0)) ≡ true }
+    ensures cut { length (cache_kept size_in 9 (replicate 1025 (7, 0))) ≡ 1024 }
 {}
