@@ -6,6 +6,7 @@ use Rattle.std.proofs.lemmas.List.Concat.{flat_map-append}
 use Rattle.std.proofs.lemmas.List.FromFn.{map-range_with_len_more, length-map-range_with_len}
 use Rattle.std.proofs.lemmas.List.Sums.{sum_by-append}
 use Rattle.std.proofs.lemmas.Nat.{mul-add-lt}
+use Rattle.bitmap_kind.specs.Pieces.{same_pieces}
 use Rattle.sampling.specs.Sampled.{channel_at, block_at}
 use Rattle.sampling.specs.Lanes.{line_sum}
 use Rattle.sampling.proofs.LineSums.{same_places}
@@ -17,11 +18,6 @@ range_more a n = sym (map-id (range_with_len a (n + 1))) ∙ map-range_with_len_
 -- one piece more
 pub pieces_more : (f : ℕ → List ℕ) (a n : ℕ) → flat_map f (range_with_len a (n + 1)) ≡ flat_map f (range_with_len a n) ++ f (a + n)
 pieces_more f a n = ap (flat_map f) (range_more a n) ∙ flat_map-append f (range_with_len a n) ((a + n) ∷ []) ∙ ap (λ xs. flat_map f (range_with_len a n) ++ xs) (append-nil (f (a + n)))
-
--- pieces that are the same at each place
-pub same_pieces : (f g : ℕ → List ℕ) (a n : ℕ) → ((j : ℕ) → a ≤ j → j < a + n → f j ≡ g j) → flat_map f (range_with_len a n) ≡ flat_map g (range_with_len a n)
-same_pieces f g a zero each = refl
-same_pieces f g a (suc n) each = ap₂ ◌++◌ (each a (omega arith) (omega arith)) (same_pieces f g (a + 1) n (λ j low high. each j (omega arith) (omega arith)))
 
 -- pieces of one length
 pub length-pieces : (f : ℕ → List ℕ) (size a n : ℕ) → ((j : ℕ) → length (f j) ≡ size) → length (flat_map f (range_with_len a n)) ≡ size * n

@@ -1,24 +1,15 @@
 -- The sampled picture under sample 1 is the picture.
-use Rattle.std.proofs.Common.{◌≡◌, ℕ, zero, suc, ◌+◌, ◌-◌, ◌*◌, ◌<◌, ◌≤◌, List, [], ◌∷◌, ◌++◌, length, get_or, take, drop, min, refl, sym, ap, ◌∙◌, arith, zero-mul, suc-mul, map, get_or-take, get_or-drop, length-take, length-drop}
-use Rattle.std.proofs.Math.Seq.{take-add}
+use Rattle.std.proofs.Common.{◌≡◌, ℕ, ◌+◌, ◌-◌, ◌*◌, ◌<◌, ◌≤◌, List, [], ◌∷◌, length, get_or, take, drop, min, sym, ap, ◌∙◌, arith, zero-mul, map, get_or-take, get_or-drop, length-take, length-drop}
 use Rattle.std.proofs.lemmas.Nat.{mul-le}
-use Rattle.std.proofs.lemmas.List.{take_all, drop-drop}
+use Rattle.std.proofs.lemmas.List.{take_all}
 use Rattle.sampling.specs.Sampled.{sampled_side, block_at, mean, sampled_channel, sampled_row, sampled_picture}
-use Rattle.sampling.proofs.BlockLists.{pixels_are, same_pieces}
+use Rattle.bitmap_kind.specs.Pieces.{all_pieces, same_pieces}
+use Rattle.sampling.proofs.BlockLists.{pixels_are}
 use Rattle.std.specs.List.{flat_map, range_with_len}
 
 -- a row of a picture that has all its rows
 length-row : (xs : List ℕ) (at k : ℕ) → at + k ≤ length xs → length (take k (drop at xs)) ≡ k
 length-row xs at k fits = omega (arith, length-take {A = ℕ}, length-drop {A = ℕ})
-
--- the list of all its pieces of one length
-all_pieces : (xs : List ℕ) (n a count : ℕ) → flat_map (λ i. take n (drop (i * n) xs)) (range_with_len a count) ≡ take (count * n) (drop (a * n) xs)
-all_pieces xs n a zero = let none : zero * n ≡ 0 = zero-mul n in rw none refl
-all_pieces xs n a (suc count) =
-    let more : suc count * n ≡ n + count * n = omega (arith, suc-mul count n) in
-    let next : a * n + n ≡ (a + 1) * n = omega arith in
-    ap (λ l. take n (drop (a * n) xs) ++ l) (all_pieces xs n (a + 1) count ∙ ap (take (count * n)) (sym (drop-drop n (a * n) xs ∙ ap (λ k. drop k xs) next)))
-    ∙ sym (ap (λ k. take k (drop (a * n) xs)) more ∙ take-add n (count * n) (drop (a * n) xs))
 
 side_one : (side : ℕ) → 1 ≤ side → sampled_side side 1 ≡ side
 side_one side some = omega arith

@@ -1,3 +1,4 @@
+pub use Rattle.bitmap_kind.specs.declared.bitmaps.Rule
 pub mod Sample
 pub mod Sampled
 pub mod SampleLaws

@@ -1,4 +1,5 @@
--- Which sample a source takes to come near a wanted size, as Glide's Downsampler does. Sizes are a width and a height.
+-- Which sample a source takes to come near a wanted size, as Glide's Downsampler does. Sizes are a width
+-- and a height.
 use Rattle.std.specs.Prelude.{ℕ, ◌*◌, ◌/◌, ◌^◌, ◌≤◌, ◌==◌, nat_le, min, if◌then◌else◌, zero, suc}
 use Rattle.std.specs.Int.{div_ceil}
 use Rattle.bitmap_kind.specs.declared.bitmaps.Rule.{Rule}

@@ -1,4 +1,4 @@
--- What contracts see of sums. It is this project's own.
+-- What contracts see of sums.
 use Rattle.std.specs.Prelude.{ℕ, ◌^◌, List}
 use Rattle.sampling.specs.declared.sums.Sums.{Sums}
 use Rattle.sampling.specs.declared.sums.Sums.TheVariants.{Narrow, Wide}

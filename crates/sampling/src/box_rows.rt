@@ -90,7 +90,8 @@ impl BoxRows {
         requires row { length row.now ≡ 4 * self.old.width }
         requires more { self.old.pushed < self.old.height }
         requires none_waits { self.old.full ≡ false }
-        ensures full { IsTrue result ↔ EndsBlocks self.old.height self.old.sample (self.old.pushed + 1) self.old.given }
+        ensures full { IsTrue result ↔ EndsBlocks self.old.height self.old.sample
+            (self.old.pushed + 1) self.old.given }
         ensures state { self.new ≡ record self.old { pushed = self.old.pushed + 1; full = result; sums = self.new.sums } }
         ensures pixels { (pixels : List ℕ) → Holds self.old pixels → Holds self.new (pixels ++ row.now) }
         ensures last { self.old.pushed + 1 ≡ self.old.height
@@ -109,7 +110,8 @@ impl BoxRows {
         requires waits { self.old.full ≡ true }
         requires row { length into.old ≡ 4 * sampled_side self.old.width self.old.sample }
         ensures row { (pixels rest : List ℕ) → Holds self.old pixels
-            → into.new ≡ sampled_row self.old.width self.old.height self.old.sample (pixels ++ rest) self.old.given }
+            → into.new ≡ sampled_row self.old.width self.old.height self.old.sample
+            (pixels ++ rest) self.old.given }
         ensures state { self.new ≡ record self.old { given = self.old.given + 1; full = false; sums = self.new.sums } }
         ensures pixels { (pixels : List ℕ) → Holds self.old pixels → Holds self.new pixels }
     {

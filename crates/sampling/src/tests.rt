@@ -7,15 +7,17 @@ use super::*;
 use bitmap_kind::Rule;
 use std::test::Fail;
 
-// The definitions themselves on worked sizes and pixels, computed where the tests are proved. The last are the grey levels
-// 0 1 2 4 and 3 0 5 6: their sums are 4 and 17.
+// The definitions themselves on worked sizes and pixels, computed where the tests are proved. The last
+// are the grey levels 0 1 2 4 and 3 0 5 6: their sums are 4 and 17.
 fn worked_samples()
     ensures at_least { sample_of (400, 300) (100, 100) Rule.AtLeast ≡ 2 }
     ensures at_most { sample_of (400, 300) (100, 100) Rule.AtMost ≡ 4 }
     ensures next_power { sample_of (5, 5) (2, 2) Rule.AtMost ≡ 4 }
     ensures small { sample_of (1, 1) (7, 5) Rule.AtLeast ≡ 1 }
-    ensures means { sampled_picture 4 2 2 (0 ∷ 0 ∷ 0 ∷ 255 ∷ 1 ∷ 1 ∷ 1 ∷ 255 ∷ 2 ∷ 2 ∷ 2 ∷ 255 ∷ 4 ∷ 4 ∷ 4 ∷ 255
-        ∷ 3 ∷ 3 ∷ 3 ∷ 255 ∷ 0 ∷ 0 ∷ 0 ∷ 255 ∷ 5 ∷ 5 ∷ 5 ∷ 255 ∷ 6 ∷ 6 ∷ 6 ∷ 255 ∷ []) ≡ 1 ∷ 1 ∷ 1 ∷ 255 ∷ 4 ∷ 4 ∷ 4 ∷ 255 ∷ [] }
+    ensures means { sampled_picture 4 2 2
+        (0 ∷ 0 ∷ 0 ∷ 255 ∷ 1 ∷ 1 ∷ 1 ∷ 255 ∷ 2 ∷ 2 ∷ 2 ∷ 255 ∷ 4 ∷ 4 ∷ 4 ∷ 255
+        ∷ 3 ∷ 3 ∷ 3 ∷ 255 ∷ 0 ∷ 0 ∷ 0 ∷ 255 ∷ 5 ∷ 5 ∷ 5 ∷ 255 ∷ 6 ∷ 6 ∷ 6 ∷ 255 ∷ [])
+        ≡ 1 ∷ 1 ∷ 1 ∷ 255 ∷ 4 ∷ 4 ∷ 4 ∷ 255 ∷ [] }
 {}
 
 #[test]
@@ -82,7 +84,8 @@ fn a_column_that_belongs_to_no_block(rt: HostRuntime) -> Result<(), Fail> {
 
 #[test]
 fn one_block_cut_on_both_sides(rt: HostRuntime) -> Result<(), Fail> {
-    // 15 pixels: 0 + .. + 14 is 105, and 112 / 15 is 7; green 1500, and 1507 / 15 is 100; blue 255, and 262 / 15 is 17.
+    // 15 pixels: 0 + .. + 14 is 105, and 112 / 15 is 7; green 1500, and 1507 / 15 is 100; blue 255, and
+    // 262 / 15 is 17.
     let pixels = [
         0, 100, 0, 255, 1, 100, 0, 255, 2, 100, 0, 255, 3, 100, 0, 255, 4, 100, 0, 255, //
         5, 100, 0, 255, 6, 100, 0, 255, 7, 100, 0, 255, 8, 100, 0, 255, 9, 100, 0, 255, //

@@ -37,7 +37,8 @@ fn add_block(lanes: &mut [u128], block: &[u8], columns: usize)
 fn block_sums(block: &[u8], columns: usize) -> [u64; 4]
     requires pixels { length block.now ≡ 4 * columns }
     requires room { 255 * columns < 2 ^ 64 }
-    ensures sums { result ≡ line_sum block.now 0 columns 0 ∷ line_sum block.now 0 columns 1 ∷ line_sum block.now 0 columns 2 ∷ line_sum block.now 0 columns 3 ∷ [] }
+    ensures sums { result ≡ line_sum block.now 0 columns 0 ∷ line_sum block.now 0 columns 1
+        ∷ line_sum block.now 0 columns 2 ∷ line_sum block.now 0 columns 3 ∷ [] }
     ensures bound { (k : ℕ) → slice_index result k ≤ 255 * columns }
 {
     let mut red = 0u64;
