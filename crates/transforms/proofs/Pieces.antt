@@ -1,8 +1,8 @@
 -- Pieces of a list that is written over.
-use Rattle.std.proofs.Common.{◌≡◌, ℕ, zero, suc, zero-mul, suc-mul, ◌+◌, ◌*◌, ◌<◌, ◌≤◌, List, [], ◌∷◌, ◌++◌, length, take, drop, get_or, refl, sym, ap, ◌∙◌, arith, rules}
-use Rattle.std.specs.List.{flat_map, range_with_len}
-use Rattle.std.proofs.Math.Seq.{take-add, drop-append-add}
-use Rattle.std.proofs.lemmas.List.{same_lists, places, take_at, drop-drop}
+use Rattle.std.proofs.Common.{◌≡◌, ℕ, zero, suc, zero-mul, suc-mul, ◌+◌, ◌*◌, ◌<◌, ◌≤◌, List, [], ◌∷◌, ◌++◌, length, take, drop, get_or, ap, ◌∙◌, arith, rules}
+use Rattle.std.specs.List.{flat_map}
+use Rattle.std.proofs.Math.Seq.{drop-append-add}
+use Rattle.std.proofs.lemmas.List.{same_lists, places, take_at}
 use Rattle.bitmap_kind.specs.Stored.{overwritten}
 
 -- within what was written
@@ -32,17 +32,3 @@ piece-flat_map f n (x ∷ xs) (suc i) each lt =
     ap (λ k. take n (drop k (f x ++ flat_map f xs))) next
     ∙ ap (take n) (drop-append-add (f x) (flat_map f xs) (i * n))
     ∙ piece-flat_map f n xs i (λ k below. each (suc k) (omega arith)) (omega arith)
-
--- the list of all its pieces of one length
-pub all_pieces : (xs : List ℕ) (n a count : ℕ) → flat_map (λ i. take n (drop (i * n) xs)) (range_with_len a count) ≡ take (count * n) (drop (a * n) xs)
-all_pieces xs n a zero = let none : zero * n ≡ 0 = zero-mul n in rw none refl
-all_pieces xs n a (suc count) =
-    let more : suc count * n ≡ n + count * n = omega (arith, suc-mul count n) in
-    let next : a * n + n ≡ (a + 1) * n = omega arith in
-    ap (λ l. take n (drop (a * n) xs) ++ l) (all_pieces xs n (a + 1) count ∙ ap (take (count * n)) (sym (drop-drop n (a * n) xs ∙ ap (λ k. drop k xs) next)))
-    ∙ sym (ap (λ k. take k (drop (a * n) xs)) more ∙ take-add n (count * n) (drop (a * n) xs))
-
--- two lists of pieces
-pub same_pieces : (f g : ℕ → List ℕ) (a count : ℕ) → ((k : ℕ) → a ≤ k → k < a + count → f k ≡ g k) → flat_map f (range_with_len a count) ≡ flat_map g (range_with_len a count)
-same_pieces f g a zero same = refl
-same_pieces f g a (suc count) same = λ i. same a (omega arith) (omega arith) i ++ same_pieces f g (a + 1) count (λ k low high. same k (omega arith) (omega arith)) i

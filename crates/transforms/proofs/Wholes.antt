@@ -9,7 +9,8 @@ use Rattle.bitmap_kind.specs.Picture.{Picture, BitmapValue, stored_size, pixel_p
 use Rattle.transforms.specs.Boxes.{IsWhole}
 use Rattle.transforms.specs.Steps.{MovesColumns}
 use Rattle.transforms.specs.Moved.{pixels_by}
-use Rattle.transforms.proofs.Pieces.{piece-piece, all_pieces, same_pieces}
+use Rattle.bitmap_kind.specs.Pieces.{all_pieces, same_pieces}
+use Rattle.transforms.proofs.Pieces.{piece-piece}
 
 pub bytes_by_pixels : (p : Picture) → IsWhole p → pixels_by p.width p.height (λ x y. pixel_at p x y) ≡ p.bytes
 bytes_by_pixels p whole =

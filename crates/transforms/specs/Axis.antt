@@ -1,4 +1,4 @@
--- A line of pixels at one scale. It is this project's own: columns and rows of every transform are computed by it.
+-- A line of pixels at one scale: columns and rows of every transform are computed by it.
 use Rattle.std.specs.Prelude.{ℕ, ◌+◌, ◌*◌, ◌/◌, ◌<◌, ◌^◌, ◌≡◌}
 use Rattle.transforms.specs.declared.axes.Axis.{Axis}
 

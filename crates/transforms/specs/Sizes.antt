@@ -27,10 +27,11 @@ target_size w h Inside W H = if lies_inside w h W H then (w, h) else fitted w h 
 abbrev pub scaled_place : ℕ → ℕ → ℕ → ℕ
 scaled_place from to k = ((2 * k + 1) * from) / (2 * to)
 
--- Of a line of `from` pixels that is scaled as `across` ones become `to`, the middle `wanted` pixels are kept: Glide's
--- centerCrop. The middle of the pixel k is k + 1/2 - wanted/2 behind that of the line, and so its place is
--- ((2 * k + 1 - wanted) * across + from * to) / (2 * to). Written with the one subtraction last, nothing passes below 0,
--- since wanted * across is at most from * to where the line is too long.
+-- Of a line of `from` pixels that is scaled as `across` ones become `to`, the middle `wanted` pixels are
+-- kept: Glide's centerCrop. The middle of the pixel k is k + 1/2 - wanted/2 after that of the line, and
+-- so its place is ((2 * k + 1 - wanted) * across + from * to) / (2 * to). Written with the one
+-- subtraction last, nothing passes below 0, since wanted * across is at most from * to where the line is
+-- too long.
 abbrev pub cropped_place : ℕ → ℕ → ℕ → ℕ → ℕ → ℕ
 cropped_place from across wanted to k = ((2 * k + 1) * across + from * to - wanted * across) / (2 * to)
 

@@ -56,8 +56,10 @@ pub fn axes(
     requires source { IsSize source.0 source.1 }
     requires target { IsSize target.0 target.1 }
     requires size { target ≡ target_size source.0 source.1 transform wanted.0 wanted.1 }
-    ensures columns { Follows result.0 target.0 source.0 (source_column source.0 source.1 transform wanted.0 wanted.1) }
-    ensures rows { Follows result.1 target.1 source.1 (source_row source.0 source.1 transform wanted.0 wanted.1) }
+    ensures columns { Follows result.0 target.0 source.0
+        (source_column source.0 source.1 transform wanted.0 wanted.1) }
+    ensures rows { Follows result.1 target.1 source.1
+        (source_row source.0 source.1 transform wanted.0 wanted.1) }
 {
     let (w, h) = source;
     let (wanted_w, wanted_h) = wanted;
@@ -94,9 +96,10 @@ impl Axis {
     }
 }
 
-// Whether places are neighbours, each behind the one before.
+// Whether places are neighbours, each one past the one before.
 pub fn are_neighbours(places: &[u32]) -> bool
-    ensures { IsTrue result ↔ EachIndex places.now (λ i. slice_index places.now i ≡ slice_index places.now 0 + i) }
+    ensures { IsTrue result ↔ EachIndex places.now
+        (λ i. slice_index places.now i ≡ slice_index places.now 0 + i) }
 {
     for (i, place) in places.iter().enumerate() {
         if *place as usize != places[0] as usize + i {

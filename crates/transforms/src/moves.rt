@@ -21,7 +21,8 @@ fn move_run(source: &Bitmap, target: &mut Bitmap, x: u32, first: u32, count: u32
     requires rows { Follows rows target.old.picture.height source.now.picture.height (axis_place rows) }
     requires source { IsWhole source.now.picture }
     requires target { IsWhole target.old.picture }
-    ensures { MovesColumns source.now.picture target.old target.new x count target.old.picture.height (λ i. first + i) (axis_place rows) }
+    ensures { MovesColumns source.now.picture target.old target.new x count target.old.picture.height
+        (λ i. first + i) (axis_place rows) }
 {
     for y in 0..target.height() {
         target.copy_run(x, y, source, first, rows.place(y), count);
@@ -36,7 +37,8 @@ fn move_places(source: &Bitmap, target: &mut Bitmap, x: u32, places: &[u32], row
     requires rows { Follows rows target.old.picture.height source.now.picture.height (axis_place rows) }
     requires source { IsWhole source.now.picture }
     requires target { IsWhole target.old.picture }
-    ensures { MovesColumns source.now.picture target.old target.new x (length places.now) target.old.picture.height (λ i. slice_index places.now i) (axis_place rows) }
+    ensures { MovesColumns source.now.picture target.old target.new x
+        (length places.now) target.old.picture.height (λ i. slice_index places.now i) (axis_place rows) }
 {
     for y in 0..target.height() {
         target.copy_columns(x, y, source, rows.place(y), places);
@@ -51,7 +53,8 @@ fn move_columns(source: &Bitmap, target: &mut Bitmap, x: u32, places: &[u32], ro
     requires rows { Follows rows target.old.picture.height source.now.picture.height (axis_place rows) }
     requires source { IsWhole source.now.picture }
     requires target { IsWhole target.old.picture }
-    ensures { MovesColumns source.now.picture target.old target.new x (length places.now) target.old.picture.height (λ i. slice_index places.now i) (axis_place rows) }
+    ensures { MovesColumns source.now.picture target.old target.new x
+        (length places.now) target.old.picture.height (λ i. slice_index places.now i) (axis_place rows) }
 {
     if !places.is_empty() && axes::are_neighbours(places) {
         move_run(source, target, x, places[0], places.len() as u32, rows);
@@ -62,12 +65,14 @@ fn move_columns(source: &Bitmap, target: &mut Bitmap, x: u32, places: &[u32], ro
 
 // All columns, a piece of them after the other.
 fn move_pixels(source: &Bitmap, target: &mut Bitmap, columns: Axis, rows: Axis)
-    requires columns { Follows columns target.old.picture.width source.now.picture.width (axis_place columns) }
+    requires columns { Follows columns target.old.picture.width source.now.picture.width
+        (axis_place columns) }
     requires config { target.old.picture.config ≡ source.now.picture.config }
     requires rows { Follows rows target.old.picture.height source.now.picture.height (axis_place rows) }
     requires source { IsWhole source.now.picture }
     requires target { IsWhole target.old.picture }
-    ensures { MovesColumns source.now.picture target.old target.new 0 target.old.picture.width target.old.picture.height (axis_place columns) (axis_place rows) }
+    ensures { MovesColumns source.now.picture target.old target.new 0 target.old.picture.width
+        target.old.picture.height (axis_place columns) (axis_place rows) }
 {
     let mut places = [0u32; PIECE as usize];
     let width = target.width();
@@ -83,9 +88,11 @@ fn move_pixels(source: &Bitmap, target: &mut Bitmap, columns: Axis, rows: Axis)
 
 /// Writes the picture of `source` in another size into `target`, whatever stood there.
 ///
-/// The target has the size that `target_size` gives. Each of its pixels is one of the source, the one at its place.
+/// The target has the size that `target_size` gives. Each of its pixels is one of the source, the one at
+/// its place.
 pub fn transform(source: &Bitmap, target: &mut Bitmap, transform: Transform, wanted: (u32, u32))
-    requires size { (target.old.picture.width, target.old.picture.height) ≡ target_size source.now.picture.width source.now.picture.height transform wanted.0 wanted.1 }
+    requires size { (target.old.picture.width, target.old.picture.height)
+        ≡ target_size source.now.picture.width source.now.picture.height transform wanted.0 wanted.1 }
     requires config { target.old.picture.config ≡ source.now.picture.config }
     ensures { target.new ≡ record target.old { picture = moved source.now.picture transform wanted.0 wanted.1 } }
 {

@@ -2,6 +2,7 @@
 ghost use Rattle.std.specs.Prelude.{◌≡◌, ◌∷◌, []};
 ghost use Rattle.transforms.specs.Sizes.{target_size};
 ghost use Rattle.transforms.specs.Moved.{moved};
+ghost use Rattle.transforms.specs.Worked.{alphas};
 
 use crate::{target_size, transform};
 use bitmap_kind::{Bitmap, Config, Transform};
@@ -10,12 +11,9 @@ use std::test::Fail;
 // The definitions themselves on worked pictures of one byte a pixel, computed where the tests are proved.
 fn worked_pictures()
     ensures size { target_size 200 150 Transform.Fit 100 100 ≡ (100, 75) }
-    ensures fit { moved record { width = 3; height = 2; config = Config.Alpha8; bytes = 1 ∷ 2 ∷ 3 ∷ 4 ∷ 5 ∷ 6 ∷ [] } Transform.Fit 2 2
-        ≡ record { width = 2; height = 1; config = Config.Alpha8; bytes = 4 ∷ 6 ∷ [] } }
-    ensures crop { moved record { width = 4; height = 1; config = Config.Alpha8; bytes = 1 ∷ 2 ∷ 3 ∷ 4 ∷ [] } Transform.Crop 2 1
-        ≡ record { width = 2; height = 1; config = Config.Alpha8; bytes = 2 ∷ 3 ∷ [] } }
-    ensures inside { moved record { width = 2; height = 1; config = Config.Alpha8; bytes = 1 ∷ 2 ∷ [] } Transform.Inside 4 4
-        ≡ record { width = 2; height = 1; config = Config.Alpha8; bytes = 1 ∷ 2 ∷ [] } }
+    ensures fit { moved (alphas 3 2 (1 ∷ 2 ∷ 3 ∷ 4 ∷ 5 ∷ 6 ∷ [])) Transform.Fit 2 2 ≡ alphas 2 1 (4 ∷ 6 ∷ []) }
+    ensures crop { moved (alphas 4 1 (1 ∷ 2 ∷ 3 ∷ 4 ∷ [])) Transform.Crop 2 1 ≡ alphas 2 1 (2 ∷ 3 ∷ []) }
+    ensures inside { moved (alphas 2 1 (1 ∷ 2 ∷ [])) Transform.Inside 4 4 ≡ alphas 2 1 (1 ∷ 2 ∷ []) }
 {}
 
 // A source, a transform, the wanted size and the target's.
