@@ -36,4 +36,5 @@ pub record IsBoxRows (b : Inside) : Type 0 where
   pub lanes : length (lanes_of b.sums) ≡ 4 * sampled_side b.width b.sample
   pub bound : (k : ℕ) → slice_index (lanes_of b.sums) k
       ≤ 255 * (min b.sample b.width * (b.pushed - min b.sample b.height * b.given))
-  pub room : 255 * (min b.sample b.width * min b.sample b.height) + min b.sample b.width * min b.sample b.height / 2 < limit_of b.sums
+  pub room : 255 * (min b.sample b.width * min b.sample b.height)
+      + min b.sample b.width * min b.sample b.height / 2 < limit_of b.sums

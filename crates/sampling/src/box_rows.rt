@@ -92,7 +92,11 @@ impl BoxRows {
         requires none_waits { self.old.full ≡ false }
         ensures full { IsTrue result ↔ EndsBlocks self.old.height self.old.sample
             (self.old.pushed + 1) self.old.given }
-        ensures state { self.new ≡ record self.old { pushed = self.old.pushed + 1; full = result; sums = self.new.sums } }
+        ensures state { self.new ≡ record self.old {
+          pushed = self.old.pushed + 1;
+          full = result;
+          sums = self.new.sums;
+        } }
         ensures pixels { (pixels : List ℕ) → Holds self.old pixels → Holds self.new (pixels ++ row.now) }
         ensures last { self.old.pushed + 1 ≡ self.old.height
             → self.old.given + (if result then 1 else 0) ≡ sampled_side self.old.height self.old.sample }
@@ -112,7 +116,11 @@ impl BoxRows {
         ensures row { (pixels rest : List ℕ) → Holds self.old pixels
             → into.new ≡ sampled_row self.old.width self.old.height self.old.sample
             (pixels ++ rest) self.old.given }
-        ensures state { self.new ≡ record self.old { given = self.old.given + 1; full = false; sums = self.new.sums } }
+        ensures state { self.new ≡ record self.old {
+          given = self.old.given + 1;
+          full = false;
+          sums = self.new.sums;
+        } }
         ensures pixels { (pixels : List ℕ) → Holds self.old pixels → Holds self.new pixels }
     {
         let count = self.sample.min(self.width) as u64 * self.sample.min(self.height) as u64;
