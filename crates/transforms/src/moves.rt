@@ -94,7 +94,9 @@ pub fn transform(source: &Bitmap, target: &mut Bitmap, transform: Transform, wan
     requires size { (target.old.picture.width, target.old.picture.height)
         ≡ target_size source.now.picture.width source.now.picture.height transform wanted.0 wanted.1 }
     requires config { target.old.picture.config ≡ source.now.picture.config }
-    ensures { target.new ≡ record target.old { picture = moved source.now.picture transform wanted.0 wanted.1 } }
+    ensures { target.new ≡ record target.old {
+      picture = moved source.now.picture transform wanted.0 wanted.1;
+    } }
 {
     let source_size = (source.width(), source.height());
     let target_size = (target.width(), target.height());

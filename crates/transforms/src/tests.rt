@@ -11,7 +11,8 @@ use std::test::Fail;
 // The definitions themselves on worked pictures of one byte a pixel, computed where the tests are proved.
 fn worked_pictures()
     ensures size { target_size 200 150 Transform.Fit 100 100 ≡ (100, 75) }
-    ensures fit { moved (alphas 3 2 (1 ∷ 2 ∷ 3 ∷ 4 ∷ 5 ∷ 6 ∷ [])) Transform.Fit 2 2 ≡ alphas 2 1 (4 ∷ 6 ∷ []) }
+    ensures fit { moved (alphas 3 2 (1 ∷ 2 ∷ 3 ∷ 4 ∷ 5 ∷ 6 ∷ [])) Transform.Fit 2 2
+        ≡ alphas 2 1 (4 ∷ 6 ∷ []) }
     ensures crop { moved (alphas 4 1 (1 ∷ 2 ∷ 3 ∷ 4 ∷ [])) Transform.Crop 2 1 ≡ alphas 2 1 (2 ∷ 3 ∷ []) }
     ensures inside { moved (alphas 2 1 (1 ∷ 2 ∷ [])) Transform.Inside 4 4 ≡ alphas 2 1 (1 ∷ 2 ∷ []) }
 {}
