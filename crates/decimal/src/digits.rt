@@ -11,8 +11,8 @@ pub struct Leading {
     /// How many they are.
     pub count: usize,
 
-    /// The number that they spell, or 4,294,967,296 where it is above that. Leading zeros count for nothing, and no
-    /// digits spell 0.
+    /// The number that they spell, or 4,294,967,296 where it is above that. Leading zeros count for
+    /// nothing, and no digits spell 0.
     pub value: u64,
 }
 

@@ -1,5 +1,4 @@
--- Reading that goes on after each part, up to the first fault, whatever a reader's faults are. It is this project's own way of
--- writing a format down.
+-- Reading that goes on after each part, up to the first fault, whatever a reader's faults are.
 use Rattle.std.specs.Prelude.{◌≡◌, Ok, Err, Some, None, Result}
 use Rattle.std.specs.declared.option.Option.{Option}
 

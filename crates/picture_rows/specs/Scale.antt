@@ -1,4 +1,4 @@
--- How samples are scaled without a division: this project's own.
+-- How samples are scaled without a division.
 use Rattle.std.specs.Prelude.{◌≡◌, ℕ, ◌≤◌, ◌+◌, ◌*◌, ◌/◌, ◌^◌}
 use Rattle.picture_rows.specs.declared.scale.Scale.{Scale}
 
