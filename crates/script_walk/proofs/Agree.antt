@@ -11,8 +11,7 @@ use Rattle.request_tracker.specs.declared.views.ViewState.TheVariants.{Cleared, 
 use Rattle.request_tracker.specs.Table.{has_size, begins, turned, request, collected}
 use Rattle.request_tracker.specs.Moves.{Move}
 use Rattle.load_cause.specs.declared.causes.Cause.{Cause}
-use Rattle.script_lines.specs.declared.commands.Line.{Line}
-use Rattle.script_lines.specs.declared.commands.Line.TheVariants.{Empty, Unreadable, Says}
+use Rattle.script_lines.specs.Script.{Numbered}
 use Rattle.script_walk.specs.Walk.{Begin, WalkView, Outcome, Form, TraceEvent, Dropped, Begun, Ended, Trimmed, Printed, Stage, begin_by, held, moved_view, each_move, running, running_in, ended, end_events, view_ends, gathered, gather_events, result_line, state_line, printed, print_events, names_of, names_in, can_obey, Effect, Moves, Gathers, Trims, effect, after_effect, Step, step, stay, then_step, walk, opening}
 use Rattle.script_walk.specs.Laws.{EachEnd, EndsDecide}
 use Rattle.script_walk.proofs.States.{Status, statuses, cleared, IsSet, KeepStates, Sets, effect_sets}
@@ -162,17 +161,15 @@ module _ (p o : Outcome) where
       }
   effect_same s (Trims level) sets h g = record { same = refl; agree = h }
 
-  walk_same : (lines : List Line) (s : Stage) → AgreeOn p o (statuses s.views) → Gives p (walk o s lines).events → walk p s lines ≡ walk o s lines
+  walk_same : (lines : List Numbered) (s : Stage) → AgreeOn p o (statuses s.views) → Gives p (walk o s lines).events → walk p s lines ≡ walk o s lines
   walk_same [] s h g = refl
-  walk_same (Empty ∷ lines) s h g = walk_same lines s h g
-  walk_same (Unreadable ∷ lines) s h g = refl
-  walk_same (Says command ∷ lines) s h g =
-      let q = step p s command in
-      let r = step o s command in
-      elim (can_obey (names_in command) (names_of s.views)) as (λ t. Gives p (cond t (then_step r (walk o r.stage lines)) (stay s)).events → cond t (then_step q (walk p q.stage lines)) (stay s) ≡ cond t (then_step r (walk o r.stage lines)) (stay s)) [
+  walk_same (first ∷ others) s h g =
+      let q = step p s first.command in
+      let r = step o s first.command in
+      elim (can_obey (names_in first.command) (names_of s.views)) as (λ t. Gives p (cond t (then_step r (walk o r.stage others)) (stay s)).events → cond t (then_step q (walk p q.stage others)) (stay s) ≡ cond t (then_step r (walk o r.stage others)) (stay s)) [
         | true ↦ λ g.
-            let one = effect_same s (effect s command) (effect_sets s command) h (gives_left r.events (walk o r.stage lines).events g) in
-            ap (λ (x : Step). then_step x (walk p x.stage lines)) one.same ∙ ap (then_step r) (walk_same lines r.stage one.agree (gives_right r.events (walk o r.stage lines).events g))
+            let one = effect_same s (effect s first.command) (effect_sets s first.command) h (gives_left r.events (walk o r.stage others).events g) in
+            ap (λ (x : Step). then_step x (walk p x.stage others)) one.same ∙ ap (then_step r) (walk_same others r.stage one.agree (gives_right r.events (walk o r.stage others).events g))
         | false ↦ λ g. refl
       ] g
 

@@ -1,7 +1,7 @@
 pub mod States
 pub mod Once
 pub mod Agree
-pub mod BadLines
+pub mod BadCommands
 pub mod Live
 pub mod Orderly
 pub mod Licence

@@ -12,10 +12,9 @@ use Rattle.request_tracker.specs.declared.views.ViewState.TheVariants.{Cleared, 
 use Rattle.request_tracker.specs.Table.{has_size, begins, turned, request, collected}
 use Rattle.request_tracker.specs.Moves.{Move, act_move}
 use Rattle.load_cause.specs.declared.causes.Cause.{Cause}
-use Rattle.script_lines.specs.declared.commands.Line.{Line}
-use Rattle.script_lines.specs.declared.commands.Line.TheVariants.{Empty, Unreadable, Says}
 use Rattle.script_walk.specs.Printed.{PrintedLine}
 use Rattle.script_walk.specs.Starts.{one_if}
+use Rattle.script_lines.specs.Script.{Numbered}
 use Rattle.script_walk.specs.Walk.{Begin, WalkView, Outcome, Form, TraceEvent, Dropped, Begun, Ended, Trimmed, Printed, Stage, begin_by, held, all_held, dropped_by, moved_view, move_events, drop_events, begin_events, each_move, running, running_in, ended, end_events, view_ends, gathered, gather_events, view_line, printed, print_events, names_of, names_in, can_obey, Effect, Moves, Gathers, Trims, effect, after_effect, step, every, closing, stay, then_step, walk, trace, opening}
 use Rattle.script_walk.proofs.States.{Status, statuses, cleared, IsSet, KeepStates, Sets, effect_sets}
 
@@ -161,18 +160,16 @@ module _ (o : Outcome) where
   effect_once n s (Gathers form shown) sets = omega (arith, ends-append n (gather_events o s.views) (print_events o form shown (gathered o s.views)), prints_end n form shown (gathered o s.views), gather_once n s.views)
   effect_once n s (Trims level) sets = omega arith
 
-  walk_once : (n : ℕ) (lines : List Line) (s : Stage) → ends n (walk o s lines).events ≤ runs n (statuses s.views) + one_if (ltb s.begun n)
+  walk_once : (n : ℕ) (lines : List Numbered) (s : Stage) → ends n (walk o s lines).events ≤ runs n (statuses s.views) + one_if (ltb s.begun n)
   walk_once n [] s = omega arith
-  walk_once n (Empty ∷ lines) s = walk_once n lines s
-  walk_once n (Unreadable ∷ lines) s = omega arith
-  walk_once n (Says command ∷ lines) s =
-      let r = step o s command in
-      elim (can_obey (names_in command) (names_of s.views)) as (λ t. ends n (cond t (then_step r (walk o r.stage lines)) (stay s)).events ≤ runs n (statuses s.views) + one_if (ltb s.begun n)) [
-        | true ↦ omega (arith, ends-append n r.events (walk o r.stage lines).events, effect_once n s (effect s command) (effect_sets s command), walk_once n lines r.stage)
+  walk_once n (first ∷ others) s =
+      let r = step o s first.command in
+      elim (can_obey (names_in first.command) (names_of s.views)) as (λ t. ends n (cond t (then_step r (walk o r.stage others)) (stay s)).events ≤ runs n (statuses s.views) + one_if (ltb s.begun n)) [
+        | true ↦ omega (arith, ends-append n r.events (walk o r.stage others).events, effect_once n s (effect s first.command) (effect_sets s first.command), walk_once n others r.stage)
         | false ↦ omega arith
       ]
 
-  pub trace_once : (n : ℕ) (lines : List Line) → ends n (trace o lines) ≤ one_if (ltb 0 n)
+  pub trace_once : (n : ℕ) (lines : List Numbered) → ends n (trace o lines) ≤ one_if (ltb 0 n)
   trace_once n lines =
       let all = walk o opening lines in
       omega (arith, ends-append n all.events (closing all.stage), walk_once n lines opening, moves_end n (every (act_move acts.ClearAll)) all.stage.begun all.stage.gathers [] all.stage.views)

@@ -14,14 +14,13 @@ use Rattle.request_tracker.specs.declared.views.ViewState.TheVariants.{Cleared, 
 use Rattle.request_tracker.specs.Table.{has_hold, has_size, drops, begins, turned, request, collected}
 use Rattle.request_tracker.specs.Moves.{Move, act_move}
 use Rattle.load_cause.specs.declared.causes.Cause.{Cause}
-use Rattle.script_lines.specs.declared.commands.Line.{Line}
-use Rattle.script_lines.specs.declared.commands.Line.TheVariants.{Empty, Unreadable, Says}
 use Rattle.script_walk.specs.Printed.{PrintedLine}
+use Rattle.script_lines.specs.Script.{Numbered}
 use Rattle.script_walk.specs.Walk.{Begin, WalkView, Outcome, Form, TraceEvent, Stage, opening, begin_by, held, all_held, dropped_by, moved_view, drop_events, begin_events, each_move, running, running_in, ended, end_events, view_ends, gathered_view, gathered, gather_events, view_line, printed, print_events, has_name, names_of, Names, NoView, Known, Made, names_in, can_obey, Effect, Moves, Gathers, Trims, effect, after_effect, step, every, closing, stay, then_step, walk, trace}
 use Rattle.script_walk.specs.Ends.{names_after}
 use Rattle.script_walk.specs.Orderly.{without_begin, IsOrderly}
 use Rattle.script_walk.proofs.States.{Status, statuses, cleared, IsSet, KeepStates, Sets, effect_sets, act_keeps}
-use Rattle.script_walk.proofs.BadLines.{SetNames, effect_names, after_names}
+use Rattle.script_walk.proofs.BadCommands.{SetNames, effect_names, after_names}
 use Rattle.script_walk.proofs.Live.{Holds, holds_less, holds_more, one_fewer, in_right}
 
 -- What is said of a stage, and what follows of the events behind it.
@@ -215,26 +214,24 @@ module _ (o : Outcome) where
   effect_room s (Gathers form shown) names h few = tt
   effect_room s (Trims level) names h few = tt
 
-  walk_then : (lines : List Line) (s : Stage) (live : List Begin) → length s.views ≤ 4096 → Holds s.begun live (all_held s.views)
+  walk_then : (lines : List Numbered) (s : Stage) (live : List Begin) → length s.views ≤ 4096 → Holds s.begun live (all_held s.views)
       → IsOrderly s.begun live ((walk o s lines).events ++ closing (walk o s lines).stage)
   walk_then [] s live room h = closing_orderly s live room h
-  walk_then (Empty ∷ lines) s live room h = walk_then lines s live room h
-  walk_then (Unreadable ∷ lines) s live room h = closing_orderly s live room h
-  walk_then (Says command ∷ lines) s live room h =
-      let r = step o s command in
-      let rest = walk o r.stage lines in
-      elim (can_obey (names_in command) (names_of s.views)) as (λ t. can_obey (names_in command) (names_of s.views) ≡ t
+  walk_then (first ∷ others) s live room h =
+      let r = step o s first.command in
+      let rest = walk o r.stage others in
+      elim (can_obey (names_in first.command) (names_of s.views)) as (λ t. can_obey (names_in first.command) (names_of s.views) ≡ t
       → IsOrderly s.begun live ((cond t (then_step r rest) (stay s)).events ++ closing (cond t (then_step r rest) (stay s)).stage)) [
         | true ↦ λ can.
-            let after = names_after (names_in command) (names_of s.views) in
-            let few : length after ≤ 4096 = name_room (names_in command) (names_of s.views) can (omega (arith, views_named s.views, room)) in
-            let next : length r.stage.views ≤ 4096 = omega (arith, views_named r.stage.views, ap length (after_names o s after (effect s command) (effect_names s command)), few) in
+            let after = names_after (names_in first.command) (names_of s.views) in
+            let few : length after ≤ 4096 = name_room (names_in first.command) (names_of s.views) can (omega (arith, views_named s.views, room)) in
+            let next : length r.stage.views ≤ 4096 = omega (arith, views_named r.stage.views, ap length (after_names o s after (effect s first.command) (effect_names s first.command)), few) in
             subst (IsOrderly s.begun live) (sym (append_assoc r.events rest.events (closing rest.stage)))
-            (effect_then o s (effect s command) (effect_sets s command) (effect_room s (effect s command) after (effect_names s command) few) (same_holds s) live
-            (rest.events ++ closing rest.stage) h (λ live' h'. walk_then lines r.stage live' next h'))
+            (effect_then o s (effect s first.command) (effect_sets s first.command) (effect_room s (effect s first.command) after (effect_names s first.command) few) (same_holds s) live
+            (rest.events ++ closing rest.stage) h (λ live' h'. walk_then others r.stage live' next h'))
         | false ↦ λ can. closing_orderly s live room h
       ] refl
 
-pub traces_are_orderly : (o : Outcome) (lines : List Line) → IsOrderly 0 [] (trace o lines)
+pub traces_are_orderly : (o : Outcome) (lines : List Numbered) → IsOrderly 0 [] (trace o lines)
 traces_are_orderly o lines = walk_then o lines opening [] (omega arith)
     (record { inside = λ b is. is; once = λ n. omega arith; below = λ b is. absurd is; same = λ n. refl; count = refl })

@@ -19,7 +19,7 @@ use Rattle.script_lines.specs.declared.commands.Command.{Command}
 use Rattle.script_walk.specs.Walk.{Begin, WalkView, Stage, begin_by, held, moved_view, each_move, no_move, only, every, has_name, names_of, names_in, Names, NoView, Known, Made, with_view, effect, step}
 use Rattle.script_walk.specs.Ends.{with_name, names_after}
 use Rattle.script_walk.specs.Tracked.{tracked_view, tracked, AreDistinct, acted_all, TrackerMakesTheMoves}
-use Rattle.script_walk.proofs.BadLines.{with_view_names, effect_names, after_names}
+use Rattle.script_walk.proofs.BadCommands.{with_view_names, effect_names, after_names}
 
 -- ---- places of names
 

@@ -2,8 +2,8 @@
 use Rattle.std.specs.Prelude.{ℕ, ◌+◌, List, [], ◌∷◌, ◌++◌, if◌then◌else◌, Some, None}
 use Rattle.std.specs.declared.option.Option.{Option}
 use Rattle.std.specs.List.{list_any}
-use Rattle.script_lines.specs.declared.commands.Line.{Line}
-use Rattle.script_lines.specs.declared.commands.Line.TheVariants.{Empty, Unreadable, Says}
+use Rattle.std.specs.Option.{option_or}
+use Rattle.script_lines.specs.Script.{Numbered, Script}
 use Rattle.script_walk.specs.Printed.{PrintedLine, says_failed, run_text}
 use Rattle.script_walk.specs.Walk.{Outcome, TraceEvent, Printed, Names, NoView, Known, Made, has_name, names_in, can_obey, trace}
 
@@ -25,29 +25,31 @@ names_after NoView names = names
 names_after (Known view) names = names
 names_after (Made view) names = with_name view names
 
--- The number of the first line that cannot be obeyed: an unreadable line, one with a 4,097th view, or one with a view that
--- was never loaded. The first of these lines has this number, and the views before it these names.
-abbrev pub bad_line_from : ℕ → List (List ℕ) → List Line → Option ℕ
-bad_line_from number names [] = None
-bad_line_from number names (Empty ∷ lines) = bad_line_from (number + 1) names lines
-bad_line_from number names (Unreadable ∷ lines) = Some number
-bad_line_from number names (Says command ∷ lines) =
-    let named = names_in command in
-    if can_obey named names then bad_line_from (number + 1) (names_after named names) lines else Some number
+-- The line of the first command that cannot be obeyed, since it names a view that was never loaded, or makes a 4,097th one.
+-- The views before it have these names.
+abbrev pub bad_command_from : List (List ℕ) → List Numbered → Option ℕ
+bad_command_from names [] = None
+bad_command_from names (first ∷ others) =
+    let named = names_in first.command in
+    if can_obey named names then bad_command_from (names_after named names) others else Some first.line
 
-abbrev pub bad_line : List Line → Option ℕ
-bad_line lines = bad_line_from 1 [] lines
+abbrev pub bad_command : List Numbered → Option ℕ
+bad_command commands = bad_command_from [] commands
+
+-- the number of the first bad line: that of such a command, or else one that asks for nothing that is known
+abbrev pub bad_line : Script → Option ℕ
+bad_line script = option_or (bad_command script.commands) script.bad
 
 -- ---- what a run comes to
 
 -- all that a run of the script prints
-abbrev pub output : Outcome → List Line → List ℕ
-output outcome lines = run_text (lines_in (trace outcome lines)) (bad_line lines)
+abbrev pub output : Outcome → Script → List ℕ
+output outcome script = run_text (lines_in (trace outcome script.commands)) (bad_line script)
 
 -- The exit status of a run that is not cut short: 3 for a bad line, 1 where a printed line says failed, and else 0.
 abbrev pub status_of : List PrintedLine → Option ℕ → ℕ
 status_of printed None = if list_any says_failed printed then 1 else 0
 status_of printed (Some number) = 3
 
-abbrev pub exit_status : Outcome → List Line → ℕ
-exit_status outcome lines = status_of (lines_in (trace outcome lines)) (bad_line lines)
+abbrev pub exit_status : Outcome → Script → ℕ
+exit_status outcome script = status_of (lines_in (trace outcome script.commands)) (bad_line script)

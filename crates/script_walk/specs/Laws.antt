@@ -1,13 +1,14 @@
 -- The laws of the walk. They are this project's own.
-use Rattle.std.specs.Prelude.{◌≡◌, ℕ, ◌+◌, ◌≤◌, ◌⊎◌, List, [], ◌∷◌, ◌++◌, length, count_by, take, ⊤, Some, None, Err, Result}
+use Rattle.std.specs.Prelude.{◌≡◌, ℕ, ◌+◌, ◌≤◌, ◌⊎◌, List, [], ◌∷◌, ◌++◌, count_by, take, slice_get, ⊤, Some, None, Err, Result}
+use Rattle.std.specs.Option.{option_map}
 use Rattle.outside.specs.Content.{Address}
 use Rattle.bitmap_kind.specs.Picture.{Picture}
 use Rattle.cache_key.specs.KeyBytes.{address_of}
 use Rattle.load_cause.specs.declared.causes.Cause.{Cause}
 use Rattle.load_cause.specs.declared.causes.Cause.TheVariants as causes
-use Rattle.script_lines.specs.declared.commands.Line.{Line}
+use Rattle.script_lines.specs.Script.{Numbered}
 use Rattle.script_walk.specs.Walk.{Begin, Outcome, TraceEvent, Dropped, Begun, Ended, Trimmed, Printed, opening, names_of, then_step, walk, trace}
-use Rattle.script_walk.specs.Ends.{bad_line_from, bad_line}
+use Rattle.script_walk.specs.Ends.{bad_command_from, bad_command}
 use Rattle.script_walk.specs.Marks.{Marks, Mark, KeyResults, no_marks, cause_of, outcome_of, begins_in, same_address, failed_fetches}
 use Rattle.script_walk.specs.Orderly.{IsOrderly}
 
@@ -22,39 +23,40 @@ EachEnd P (Printed line ∷ events) = EachEnd P events
 
 -- Without marks a walk is the answer: each begin comes to what its key does.
 abbrev pub NoMarksNoFailures : Type 0
-NoMarksNoFailures = (results : KeyResults) (lines : List Line)
-    → trace (outcome_of results no_marks) lines ≡ trace (λ begin. results begin.spec.key) lines
+NoMarksNoFailures = (results : KeyResults) (commands : List Numbered)
+    → trace (outcome_of results no_marks) commands ≡ trace (λ begin. results begin.spec.key) commands
 
 -- Outcomes that agree on what came to its end make one walk.
 abbrev pub EndsDecide : Type 0
-EndsDecide = (p o : Outcome) (lines : List Line)
-    → EachEnd (λ begin result. p begin ≡ result) (walk o opening lines).events
-    → walk p opening lines ≡ walk o opening lines
+EndsDecide = (p o : Outcome) (commands : List Numbered)
+    → EachEnd (λ begin result. p begin ≡ result) (walk o opening commands).events
+    → walk p opening commands ≡ walk o opening commands
 
 abbrev pub TracesAreOrderly : Type 0
-TracesAreOrderly = (outcome : Outcome) (lines : List Line) → IsOrderly 0 [] (trace outcome lines)
+TracesAreOrderly = (outcome : Outcome) (commands : List Numbered) → IsOrderly 0 [] (trace outcome commands)
 
--- Where line n is the first bad one, a walk is that of the n - 1 lines before it, and none of these is bad.
-pub record StopsAt (outcome : Outcome) (lines : List Line) (n : ℕ) : Type 0 where
+-- Where the first command that cannot be obeyed is that of line n, a walk is that of the commands before it, and each of
+-- these can be.
+pub record StopsAt (outcome : Outcome) (commands : List Numbered) (n : ℕ) : Type 0 where
   pub before : ℕ
-  pub number_is : n ≡ 1 + before
-  pub walk_is : walk outcome opening lines ≡ walk outcome opening (take before lines)
-  pub none_bad : bad_line (take before lines) ≡ None
+  pub line_is : option_map (λ first. first.line) (slice_get commands before) ≡ Some n
+  pub walk_is : walk outcome opening commands ≡ walk outcome opening (take before commands)
+  pub none_bad : bad_command (take before commands) ≡ None
 
-abbrev pub StopsAtBadLine : Type 0
-StopsAtBadLine = (outcome : Outcome) (lines : List Line) (n : ℕ)
-    → bad_line lines ≡ Some n → StopsAt outcome lines n
+abbrev pub StopsAtBadCommand : Type 0
+StopsAtBadCommand = (outcome : Outcome) (commands : List Numbered) (n : ℕ)
+    → bad_command commands ≡ Some n → StopsAt outcome commands n
 
--- Where none of these lines is bad, a walk goes on behind them from where they leave it, and so does the count of lines.
-pub record GoesOn (outcome : Outcome) (done left : List Line) : Type 0 where
+-- Where each of these commands can be obeyed, a walk goes on behind them from where they leave it.
+pub record GoesOn (outcome : Outcome) (done left : List Numbered) : Type 0 where
   pub walk_is :
       let so_far = walk outcome opening done in
       walk outcome opening (done ++ left) ≡ then_step so_far (walk outcome so_far.stage left)
-  pub bad_is : bad_line (done ++ left)
-      ≡ bad_line_from (1 + length done) (names_of (walk outcome opening done).stage.views) left
+  pub bad_is :
+      bad_command (done ++ left) ≡ bad_command_from (names_of (walk outcome opening done).stage.views) left
 
 abbrev pub WalksGoOn : Type 0
-WalksGoOn = (outcome : Outcome) (done left : List Line) → bad_line done ≡ None → GoesOn outcome done left
+WalksGoOn = (outcome : Outcome) (done left : List Numbered) → bad_command done ≡ None → GoesOn outcome done left
 
 -- ---- marks
 
@@ -81,14 +83,14 @@ source_failures (Ended begin (Err causes.Source) ∷ events) =
 source_failures (event ∷ events) = source_failures events
 
 -- These events are those of a walk under marks, each of which stands for such a failure of its own begin.
-pub record IsMarkedWalk (results : KeyResults) (lines : List Line) (events : List TraceEvent) : Type 0 where
+pub record IsMarkedWalk (results : KeyResults) (commands : List Numbered) (events : List TraceEvent) : Type 0 where
   pub marks : Marks
-  pub walk_is : events ≡ trace (outcome_of results marks) lines
+  pub walk_is : events ≡ trace (outcome_of results marks) commands
   pub owed : (number : ℕ) (mark : Mark) → marks number ≡ Some mark → IsFailedBy mark number events
   pub licensed : (address : Address)
       → failed_fetches marks (begins_in events) address
       ≤ count_by (λ a. same_address a address) (source_failures events)
 
 abbrev pub RunsAreWalks : Type 0
-RunsAreWalks = (results : KeyResults) (outcome : Outcome) (lines : List Line)
-    → EachEnd (IsAllowed results) (trace outcome lines) → IsMarkedWalk results lines (trace outcome lines)
+RunsAreWalks = (results : KeyResults) (outcome : Outcome) (commands : List Numbered)
+    → EachEnd (IsAllowed results) (trace outcome commands) → IsMarkedWalk results commands (trace outcome commands)

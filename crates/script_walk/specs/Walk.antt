@@ -1,4 +1,4 @@
--- The walk of a script: what a plain reading of its lines does to the views, as one fold that leaves a trace. There is no
+-- The walk of a script: what a plain reading of its commands does to the views, as one fold that leaves a trace. There is no
 -- engine, no source and no memory in it. This project's own, as the script is; the views' moves are the tracker's.
 use Rattle.std.specs.Prelude.{ℕ, ◌+◌, Bool, true, false, nat_lt, ◌||◌, List, [], ◌∷◌, ◌++◌, length, map, position, if◌then◌else◌, Some, None, Ok, Err, Result}
 use Rattle.std.specs.declared.option.Option.{Option}
@@ -19,8 +19,7 @@ use Rattle.request_tracker.specs.Moves.{Move, moved, load_move, layout_move, cle
 use Rattle.load_cause.specs.declared.causes.Cause.{Cause}
 use Rattle.script_lines.specs.declared.commands.Command.{Command}
 use Rattle.script_lines.specs.declared.commands.Command.TheVariants.{Load, Layout, Clear, ClearAll, Pause, PauseAll, Resume, Trim, Wait, Show, Dump}
-use Rattle.script_lines.specs.declared.commands.Line.{Line}
-use Rattle.script_lines.specs.declared.commands.Line.TheVariants.{Empty, Unreadable, Says}
+use Rattle.script_lines.specs.Script.{Numbered}
 use Rattle.script_walk.specs.Printed.{PrintedLine, PixelsLine, ShownLine, FailedLine, WaitingLine, PausedLine, ClearedLine}
 
 -- ---- begins and what they come to
@@ -301,16 +300,14 @@ stay s = record { stage = s; events = [] }
 abbrev pub then_step : Step → Step → Step
 then_step first second = record { stage = second.stage; events = first.events ++ second.events }
 
--- what these lines do from a stage on, up to the first that cannot be obeyed
-abbrev pub walk : Outcome → Stage → List Line → Step
+-- what these commands do from a stage on, up to the first that cannot be obeyed
+abbrev pub walk : Outcome → Stage → List Numbered → Step
 walk outcome s [] = stay s
-walk outcome s (Empty ∷ lines) = walk outcome s lines
-walk outcome s (Unreadable ∷ lines) = stay s
-walk outcome s (Says command ∷ lines) =
-    if can_obey (names_in command) (names_of s.views)
-    then (let first = step outcome s command in then_step first (walk outcome first.stage lines))
+walk outcome s (first ∷ others) =
+    if can_obey (names_in first.command) (names_of s.views)
+    then (let done = step outcome s first.command in then_step done (walk outcome done.stage others))
     else stay s
 
--- all that happens in a script
-abbrev pub trace : Outcome → List Line → List TraceEvent
-trace outcome lines = let all = walk outcome opening lines in all.events ++ closing all.stage
+-- all that happens where a script has these commands
+abbrev pub trace : Outcome → List Numbered → List TraceEvent
+trace outcome commands = let all = walk outcome opening commands in all.events ++ closing all.stage

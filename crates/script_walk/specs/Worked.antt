@@ -14,6 +14,7 @@ use Rattle.script_lines.specs.declared.commands.Command.{Command}
 use Rattle.script_lines.specs.declared.commands.Command.TheVariants.{Load, Clear, Wait}
 use Rattle.script_lines.specs.declared.commands.Line.{Line}
 use Rattle.script_lines.specs.declared.commands.Line.TheVariants.{Says}
+use Rattle.script_lines.specs.Script.{Script, script_from}
 use Rattle.script_walk.specs.Printed.{PrintedLine, PixelsLine, ShownLine}
 use Rattle.script_walk.specs.Walk.{Begin, trace}
 use Rattle.script_walk.specs.Ends.{lines_in, bad_line, exit_status}
@@ -101,16 +102,20 @@ abc = record { width = 3; height = 1; config = Alpha8; bytes = codes "abc" }
 
 -- ---- what a script comes to
 
+-- what lines ask for
+abbrev pub asked : List Line → Script
+asked lines = script_from 0 lines
+
 -- With these marks the script prints these lines, and may cost so many fetches under a memory cache of this
 -- size.
 pub record Gives (marks : Marks) (memory : ℕ) (script : List Line) (lines : List PrintedLine) (fetches : ℕ)
     : Type 0 where
-  pub lines_are : lines_in (trace (outcome_of results marks) script) ≡ lines
+  pub lines_are : lines_in (trace (outcome_of results marks) (asked script).commands) ≡ lines
   pub fetches_are : starts (record {
     results = results;
     marks = marks;
     memory = memory;
-    events = trace (outcome_of results marks) script;
+    events = trace (outcome_of results marks) (asked script).commands;
   }) ≡ fetches
 
 -- without marks, and under a memory cache of 1,000 bytes
@@ -122,12 +127,12 @@ abbrev pub sizes_asked : List Begin → List (ℕ × ℕ)
 sizes_asked begins = map (λ begin. (begin.spec.key.width, begin.spec.key.height)) begins
 
 abbrev pub Asks : List Line → List (ℕ × ℕ) → Type 0
-Asks script sizes = sizes_asked (begins_in (trace (outcome_of results no_marks) script)) ≡ sizes
+Asks script sizes = sizes_asked (begins_in (trace (outcome_of results no_marks) (asked script).commands)) ≡ sizes
 
 -- its first bad line, and its status
 pub record EndsWith (script : List Line) (bad : Option ℕ) (status : ℕ) : Type 0 where
-  pub bad_is : bad_line script ≡ bad
-  pub status_is : exit_status (outcome_of results no_marks) script ≡ status
+  pub bad_is : bad_line (asked script) ≡ bad
+  pub status_is : exit_status (outcome_of results no_marks) (asked script) ≡ status
 
 -- so many names
 abbrev pub names_up_to : ℕ → List (List ℕ)

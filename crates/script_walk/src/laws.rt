@@ -1,5 +1,5 @@
 // The laws of the walk, each as the contract of a function that does nothing.
-ghost use Rattle.script_walk.specs.Laws.{NoMarksNoFailures, EndsDecide, TracesAreOrderly, StopsAtBadLine, WalksGoOn, RunsAreWalks};
+ghost use Rattle.script_walk.specs.Laws.{NoMarksNoFailures, EndsDecide, TracesAreOrderly, StopsAtBadCommand, WalksGoOn, RunsAreWalks};
 ghost use Rattle.script_walk.specs.Tracked.{TrackerMakesTheMoves};
 
 /// Without marks a walk shows what each key comes to.
@@ -17,12 +17,12 @@ pub fn traces_are_orderly()
     ensures { TracesAreOrderly }
 {}
 
-/// A walk stops just at the first bad line, and is that of the lines before it.
-pub fn walks_stop_at_the_first_bad_line()
-    ensures { StopsAtBadLine }
+/// A walk stops just at the first command that cannot be obeyed, and is that of the commands before it.
+pub fn walks_stop_at_the_first_bad_command()
+    ensures { StopsAtBadCommand }
 {}
 
-/// Where none of the first lines is bad, a walk goes on behind them from where they leave it.
+/// Where each of some commands can be obeyed, a walk goes on behind them from where they leave it.
 pub fn walks_go_on()
     ensures { WalksGoOn }
 {}

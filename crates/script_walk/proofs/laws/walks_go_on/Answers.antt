@@ -1,4 +1,4 @@
-use Rattle.script_walk.proofs.BadLines.{walks_go_on}
+use Rattle.script_walk.proofs.BadCommands.{walks_go_on}
 use Rattle.script_walk.proofs.laws.walks_go_on.Goals as goal
 
 pub returns : goal.returns
