@@ -7,3 +7,4 @@ pub mod Orderly
 pub mod Licence
 pub mod Realize
 pub mod Tracked
+pub mod ByPlace

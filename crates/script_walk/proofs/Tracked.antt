@@ -32,13 +32,13 @@ same_lt l n = elim (ltb l n) as (λ t. ltb l n ≡ t → ltb (1 + l) (suc n) ≡
   ] refl
 ] refl
 
-position_here : {A : Type 0} (p : A → Bool) (x : A) (xs : List A) → p x ≡ true → position p (x ∷ xs) ≡ Some 0
+pub position_here : {A : Type 0} (p : A → Bool) (x : A) (xs : List A) → p x ≡ true → position p (x ∷ xs) ≡ Some 0
 position_here p x xs e =
     let l = position_or_len p xs in
     ap (λ t. cond (ltb (cond (not t) (1 + l) 0) (length (x ∷ xs))) (Some (cond (not t) (1 + l) 0)) None) e
     ∙ ap (λ t. cond t (Some 0) None) (lt-ltb 0 (length (x ∷ xs)) (omega arith))
 
-position_next : {A : Type 0} (p : A → Bool) (x : A) (xs : List A) → p x ≡ false → position p (x ∷ xs) ≡ option_map suc (position p xs)
+pub position_next : {A : Type 0} (p : A → Bool) (x : A) (xs : List A) → p x ≡ false → position p (x ∷ xs) ≡ option_map suc (position p xs)
 position_next p x xs e =
     let l = position_or_len p xs in
     ap (λ t. cond (ltb (cond (not t) (1 + l) 0) (length (x ∷ xs))) (Some (cond (not t) (1 + l) 0)) None) e
@@ -49,19 +49,19 @@ is_some_map : {A B : Type 0} (f : A → B) (o : Option A) → is_some (option_ma
 is_some_map f None = refl
 is_some_map f (Some x) = refl
 
-has_here : (name other : List ℕ) (ns : List (List ℕ)) → bytes_eq name other ≡ true → has_name name (other ∷ ns) ≡ true
+pub has_here : (name other : List ℕ) (ns : List (List ℕ)) → bytes_eq name other ≡ true → has_name name (other ∷ ns) ≡ true
 has_here name other ns e = ap is_some (position_here (bytes_eq name) other ns e)
 
-has_next : (name other : List ℕ) (ns : List (List ℕ)) → bytes_eq name other ≡ false → has_name name (other ∷ ns) ≡ has_name name ns
+pub has_next : (name other : List ℕ) (ns : List (List ℕ)) → bytes_eq name other ≡ false → has_name name (other ∷ ns) ≡ has_name name ns
 has_next name other ns e = ap is_some (position_next (bytes_eq name) other ns e) ∙ is_some_map suc (position (bytes_eq name) ns)
 
-no_place : {A : Type 0} (o : Option A) → is_some o ≡ false → o ≡ None
+pub no_place : {A : Type 0} (o : Option A) → is_some o ≡ false → o ≡ None
 no_place None e = refl
 no_place (Some x) e = absurd (true≢false e)
 
 -- ---- names of a stage
 
-names_are : (vs : List WalkView) → names (map tracked_view vs) ≡ names_of vs
+pub names_are : (vs : List WalkView) → names (map tracked_view vs) ≡ names_of vs
 names_are [] = refl
 names_are (v ∷ vs) = ap (λ l. v.name ∷ l) (names_are vs)
 
@@ -74,7 +74,7 @@ count_is (v ∷ vs) = ap suc (count_is vs)
 
 -- ---- names stay distinct
 
-same_name : (a b : List ℕ) → bytes_eq a b ≡ true → a ≡ b
+pub same_name : (a b : List ℕ) → bytes_eq a b ≡ true → a ≡ b
 same_name a b e = (bytes_eq-Decides a b).0 e
 
 no_name : (a b : List ℕ) → bytes_eq a b ≡ false → bytes_eq b a ≡ false

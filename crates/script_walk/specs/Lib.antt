@@ -5,5 +5,6 @@ pub mod Marks
 pub mod Starts
 pub mod Orderly
 pub mod Tracked
+pub mod ByPlace
 pub mod Laws
 pub mod Worked

@@ -1,6 +1,7 @@
 // The laws of the walk, each as the contract of a function that does nothing.
 ghost use Rattle.script_walk.specs.Laws.{NoMarksNoFailures, EndsDecide, TracesAreOrderly, StopsAtBadCommand, WalksGoOn, RunsAreWalks};
 ghost use Rattle.script_walk.specs.Tracked.{TrackerMakesTheMoves};
+ghost use Rattle.script_walk.specs.ByPlace.{MovesGoByPlace};
 
 /// Without marks a walk shows what each key comes to.
 pub fn no_marks_no_failures()
@@ -37,4 +38,9 @@ pub fn runs_are_marked_walks()
 /// and can be obeyed just where the tracker's call can. The names stay distinct.
 pub fn a_tracker_makes_the_moves()
     ensures { TrackerMakesTheMoves }
+{}
+
+/// A move of all views is one of the view at each place in turn, and a move of one view is one of the view at its place.
+pub fn moves_go_by_place()
+    ensures { MovesGoByPlace }
 {}
