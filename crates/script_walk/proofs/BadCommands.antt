@@ -1,9 +1,9 @@
 -- A walk stops just at the first command that cannot be obeyed.
-use Rattle.std.proofs.Common.{length, append_assoc, ◌≡◌, ℕ, ◌+◌, true, false, cond, List, [], ◌∷◌, ◌++◌, take, Some, None, refl, ap, sym, ◌∙◌, arith}
+use Rattle.std.proofs.Common.{append_assoc, ◌≡◌, ℕ, ◌+◌, true, false, cond, List, [], ◌∷◌, ◌++◌, take, Some, None, refl, ap, sym, ◌∙◌}
 use Rattle.std.specs.Prelude.{suc}
 use Rattle.std.specs.Option.{option_len, option_map}
 use Rattle.std.specs.Prelude.{slice_get}
-use Rattle.std.proofs.lemmas.Option.{none-some, same_Some}
+use Rattle.std.proofs.lemmas.Option.{none-some}
 use Rattle.request_tracker.specs.declared.views.Ask.{Ask}
 use Rattle.request_tracker.specs.Moves.{Move, new_view}
 use Rattle.load_cause.specs.declared.causes.Cause.{Cause}

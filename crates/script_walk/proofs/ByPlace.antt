@@ -1,15 +1,15 @@
 -- Moves of a walk go place by place.
-use Rattle.std.proofs.Common.{◌≡◌, ℕ, ◌+◌, Bool, true, false, cond, List, [], ◌∷◌, ◌++◌, length, map, zero, suc, Some, None, Option, refl, ap, sym, ◌∙◌, arith, true≢false, append_assoc}
+use Rattle.std.proofs.Common.{◌≡◌, ℕ, ◌+◌, true, false, cond, List, [], ◌∷◌, ◌++◌, length, map, zero, suc, Some, None, Option, refl, ap, sym, ◌∙◌, arith, true≢false, append_assoc}
 use Rattle.std.specs.Prelude.{position}
 use Rattle.std.specs.Option.{option_map, option_map_or, option_len}
 use Rattle.std.specs.Str.{bytes_eq}
 use Rattle.std.proofs.lemmas.List.{append-nil, length-append}
 use Rattle.load_cause.specs.declared.causes.Cause.{Cause}
-use Rattle.request_tracker.specs.Moves.{Views, Tracked, names, Move, moved, changed_at}
-use Rattle.script_walk.specs.Walk.{Begin, WalkView, Stage, Step, Moved, held, all_held, begin_by, moved_view, move_events, each_move, no_move, only, every, has_name, names_of, after_moves, stay, then_step}
-use Rattle.script_walk.specs.Tracked.{AreDistinct, tracked_view, tracked}
-use Rattle.script_walk.specs.ByPlace.{move_at, step_at, steps_from, after_each, GoesByPlace, MovesGoByPlace}
-use Rattle.script_walk.proofs.Tracked.{position_here, position_next, has_here, has_next, same_name, no_place, names_are}
+use Rattle.request_tracker.specs.Moves.{Tracked, Move, moved, changed_at}
+use Rattle.script_walk.specs.Walk.{Begin, WalkView, Stage, Step, Moved, held, all_held, begin_by, moved_view, move_events, each_move, no_move, only, every, has_name, names_of, after_moves, then_step}
+use Rattle.script_walk.specs.Tracked.{AreDistinct, tracked_view}
+use Rattle.script_walk.specs.ByPlace.{move_at, step_at, steps_from, MovesGoByPlace}
+use Rattle.script_walk.proofs.Tracked.{position_here, position_next, has_here, has_next, same_name, names_are}
 
 held-append : (xs ys : List WalkView) → all_held (xs ++ ys) ≡ all_held xs ++ all_held ys
 held-append [] ys = refl

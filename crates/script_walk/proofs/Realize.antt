@@ -6,7 +6,6 @@ use Rattle.bitmap_kind.specs.Picture.{Picture}
 use Rattle.load_cause.specs.declared.causes.Cause.{Cause}
 use Rattle.load_cause.specs.declared.causes.Cause.TheVariants as causes
 use Rattle.script_walk.specs.Starts.{one_if}
-use Rattle.script_lines.specs.Script.{Numbered}
 use Rattle.script_walk.specs.Walk.{Begin, TraceEvent, Dropped, Begun, Ended, Trimmed, Printed, Step, opening, walk, closing, trace}
 use Rattle.script_walk.specs.Marks.{Marks, Mark, Source, Memory, Uncached, KeyResults, cause_of, marked_result, outcome_of}
 use Rattle.script_walk.specs.Laws.{EachEnd, NoMarksNoFailures, IsAllowed, IsFailedBy, RunsAreWalks}

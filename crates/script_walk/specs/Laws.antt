@@ -1,5 +1,5 @@
 -- The laws of the walk. They are this project's own.
-use Rattle.std.specs.Prelude.{◌≡◌, ℕ, ◌+◌, ◌≤◌, ◌⊎◌, List, [], ◌∷◌, ◌++◌, count_by, take, slice_get, ⊤, Some, None, Err, Result}
+use Rattle.std.specs.Prelude.{◌≡◌, ℕ, ◌≤◌, ◌⊎◌, List, [], ◌∷◌, ◌++◌, count_by, take, slice_get, ⊤, Some, None, Err, Result}
 use Rattle.std.specs.Option.{option_map}
 use Rattle.outside.specs.Content.{Address}
 use Rattle.bitmap_kind.specs.Picture.{Picture}
