@@ -1,15 +1,12 @@
 -- Keys by numbers in a list of entries, where the finite map that the list stands for has them.
-use Rattle.std.proofs.Common.{◌≡◌, ℕ, ◌<◌, zero, suc, true, List, [], ◌∷◌, length, Option, Some, None, refl, ap, sym, subst, ◌∙◌, arith}
+use Rattle.std.proofs.Common.{◌≡◌, ℕ, ◌<◌, zero, suc, List, [], ◌∷◌, length, Option, Some, None, refl, ap, sym, subst, ◌∙◌, arith}
 use Rattle.std.specs.Prelude.{IsSome, is_some, slice_get}
 use Rattle.std.specs.Option.{option_map}
 use Rattle.std.specs.Ordering.{nat_cmp}
 use Rattle.std.specs.FinMap.{get, find, from_entries, get-from_entries}
-use Rattle.std.specs.FinSet.{contains, empty, contains-empty}
 use Rattle.std.proofs.lemmas.Cmp.{nat_cmp_total}
 use Rattle.cache_key.specs.Key.{Key}
 use Rattle.cache_key.specs.KeyOf.{KeyMap}
-use Rattle.finite_maps.specs.MapLaws.{not_Some, same_Some}
-use Rattle.active_resources.specs.Actives.{Fits}
 
 -- an entry of this number, if there is a key
 abbrev entry : ℕ → Option Key → Option (ℕ × Key)
@@ -41,13 +38,3 @@ module _ (ds es : List (ℕ × Key)) (keys : KeyMap) (number place : ℕ) (same 
   -- and one that stands somewhere has a key
   pub known : place < length es → IsSome (get keys number)
   known within = sym (some_entry number (get keys number)) ∙ ap is_some (sym here) ∙ slice_get_some es place within
-
-nobody : (n : ℕ) → contains (empty {R = nat_cmp}) n ≡ true → ⊥
-nobody n has = let none = contains-empty nat_cmp n in cc
-
--- A table with no number fits all keys.
-pub fits-empty : (keys : KeyMap) → Fits keys empty
-fits-empty keys = record {
-  known = λ n has. absurd (nobody n has);
-  apart = λ a b in_a in_b e. absurd (nobody a in_a);
-}

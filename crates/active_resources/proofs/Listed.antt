@@ -1,15 +1,15 @@
 -- Sets of listed numbers, and keys of listed entries, by walks over the lists.
-use Rattle.std.proofs.Common.{◌≡◌, ℕ, Bool, true, false, List, [], ◌∷◌, Option, Some, None, refl, ap, sym, ◌∙◌, eqb, subst, inl, inr, ◌++◌}
-use Rattle.std.specs.Prelude.{IsSome, is_some, ◌||◌, ◌⊎◌}
+use Rattle.std.proofs.Common.{◌≡◌, ℕ, true, false, List, [], ◌∷◌, Option, Some, None, ap, sym, ◌∙◌, eqb, subst, inl, inr, ◌++◌}
+use Rattle.std.specs.Prelude.{IsSome, is_some}
 use Rattle.std.specs.List.{list_any}
 use Rattle.std.specs.Ordering.{nat_cmp}
 use Rattle.std.specs.FinMap.{get, find, from_entries, get-from_entries}
-use Rattle.std.specs.FinSet.{contains, insert, remove, from_list, contains-from_list_nat, nat_cmp-IsAntisymmetric, same_set}
+use Rattle.std.specs.FinSet.{contains, insert, from_list, contains-from_list_nat}
 use Rattle.std.proofs.lemmas.Bool.{eqb-true}
 use Rattle.std.proofs.lemmas.Cmp.{nat_cmp_total}
 use Rattle.cache_key.specs.Key.{Key}
 use Rattle.cache_key.specs.KeyOf.{KeyMap}
-use Rattle.active_resources.specs.Actives.{Numbers, Fits, IsActiveAt, without}
+use Rattle.active_resources.specs.Actives.{Fits, IsActiveAt, without}
 use Rattle.active_resources.specs.inside.Numbers.{left_of}
 use Rattle.active_resources.proofs.Sets.{or_true, set-left, set-push}
 

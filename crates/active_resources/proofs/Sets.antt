@@ -1,17 +1,17 @@
 -- The vector's list and the set that it is.
 use Rattle.std.proofs.Common.{◌≡◌, ◌≢◌, ℕ, ◌+◌, ◌≤◌, Bool, true, false, cond, List, [], ◌∷◌, ◌++◌, length, Some, None, refl, ap, sym, subst, ◌∙◌, inl, inr, arith, eqb}
-use Rattle.std.specs.Prelude.{not, ◌&&◌, ◌||◌, ◌↔◌, ◌⊎◌, IsSome, IsTrue, filter}
+use Rattle.std.specs.Prelude.{not, ◌&&◌, ◌||◌, ◌↔◌, ◌⊎◌, IsSome, IsTrue}
 use Rattle.std.specs.declared.option.Option.{Option}
 use Rattle.std.specs.List.{list_any, find}
 use Rattle.std.specs.Ordering.{nat_cmp, eq_by_cmp}
 use Rattle.std.specs.FinMap as map
-use Rattle.std.specs.FinSet.{contains, insert, remove, len, from_list, nat_cmp-IsAntisymmetric, contains-from_list_nat, contains-insert, contains-remove, len-insert, len-empty, same_set, from_list_push}
+use Rattle.std.specs.FinSet.{contains, empty, contains-empty, insert, remove, len, from_list, nat_cmp-IsAntisymmetric, contains-from_list_nat, contains-insert, contains-remove, len-insert, len-empty, same_set, from_list_push}
 use Rattle.std.specs.Cmp.{unsigned_tied}
 use Rattle.std.proofs.lemmas.Cmp.{nat_cmp_total}
-use Rattle.std.proofs.lemmas.Bool.{eqb-true, eqb-false, eq-eqb}
+use Rattle.std.proofs.lemmas.Bool.{eqb-true, eq-eqb}
 use Rattle.cache_key.specs.Key.{Key, same_key}
 use Rattle.cache_key.specs.KeyOf.{KeyMap}
-use Rattle.finite_maps.specs.MapLaws.{not_Some, same_Some, get-insert_other, get-remove_other}
+use Rattle.finite_maps.specs.MapLaws.{not_Some, same_Some}
 use Rattle.active_resources.specs.Actives.{Numbers, Fits, IsActiveAt, without}
 use Rattle.active_resources.specs.ActiveView.{AllApart}
 use Rattle.active_resources.specs.inside.Numbers.{is_key, has_key, others, left_of}
@@ -252,3 +252,15 @@ pub known-list : (keys : KeyMap) (ks ds : List ℕ) (numbers : Numbers) → from
     → (n : ℕ) → list_any (λ y. eqb y n) ds ≡ true → IsSome (map.get keys n)
 known-list keys ks ds numbers same is fits n has =
     fits.known n (ap (λ s. contains s n) (sym same) ∙ contains-from_list_nat ks n ∙ ap (list_any (λ y. eqb y n)) (sym is) ∙ has)
+
+-- ---- no number
+
+nobody : (n : ℕ) → contains (empty {R = nat_cmp}) n ≡ true → ⊥
+nobody n has = contrary (contains-empty nat_cmp n) has
+
+-- A table with no number fits all keys.
+pub fits-empty : (keys : KeyMap) → Fits keys empty
+fits-empty keys = record {
+  known = λ n has. absurd (nobody n has);
+  apart = λ a b in_a in_b e. absurd (nobody a in_a);
+}

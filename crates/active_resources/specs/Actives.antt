@@ -1,5 +1,5 @@
 -- The numbers of the resources that loads hold, with at most one of each key. That a load finds an active resource by its key is Glide's ActiveResources; numbers in place of objects, and that a number is let go only by itself, are this project's own.
-use Rattle.std.specs.Prelude.{◌≡◌, ℕ, Bool, true, false, Some, None, IsSome, ◌↔◌}
+use Rattle.std.specs.Prelude.{◌≡◌, ℕ, true, Some, None, IsSome, ◌↔◌}
 use Rattle.std.specs.declared.option.Option.{Option}
 use Rattle.std.specs.Ordering.{nat_cmp}
 use Rattle.std.specs.FinMap.{get}
@@ -19,7 +19,8 @@ pub record ActiveValue : Type 0 where
 -- A table fits the keys where these have each of its numbers, and no two of its numbers have the same key.
 pub record Fits (keys : KeyMap) (numbers : Numbers) : Type 0 where
   pub known : (number : ℕ) → contains numbers number ≡ true → IsSome (get keys number)
-  pub apart : (a b : ℕ) → contains numbers a ≡ true → contains numbers b ≡ true → get keys a ≡ get keys b → a ≡ b
+  pub apart : (a b : ℕ) → contains numbers a ≡ true → contains numbers b ≡ true
+      → get keys a ≡ get keys b → a ≡ b
 
 -- The number is active, and has what is asked for: a key.
 abbrev pub IsActiveAt : KeyMap → Option Key → Numbers → ℕ → Type 0
@@ -27,7 +28,8 @@ IsActiveAt keys wanted numbers number = (contains numbers number ≡ true) × (g
 
 -- The answer is the number that is active and has what is asked for,
 abbrev pub TellsIt : KeyMap → Option Key → Numbers → Option ℕ → Type 0
-TellsIt keys wanted numbers answer = (number : ℕ) → (answer ≡ Some number) ↔ IsActiveAt keys wanted numbers number
+TellsIt keys wanted numbers answer =
+    (number : ℕ) → (answer ≡ Some number) ↔ IsActiveAt keys wanted numbers number
 
 -- or there is no such number.
 abbrev pub NobodyHas : KeyMap → Option Key → Numbers → Type 0

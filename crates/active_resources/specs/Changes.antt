@@ -9,7 +9,8 @@ use Rattle.active_resources.specs.Actives.{Numbers, Fits}
 -- where the table's own numbers have the keys that they had
 abbrev pub FitsWhereSame : Type 0
 FitsWhereSame = (keys changed : KeyMap) (numbers : Numbers) → Fits keys numbers
-    → ((number : ℕ) → contains numbers number ≡ true → get changed number ≡ get keys number) → Fits changed numbers
+    → ((number : ℕ) → contains numbers number ≡ true → get changed number ≡ get keys number)
+    → Fits changed numbers
 
 -- where a number that is not the table's has a key put
 abbrev pub FitsAfterInsert : Type 0

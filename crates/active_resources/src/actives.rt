@@ -72,7 +72,8 @@ fn take_out_replaced(numbers: &mut Vec<u64>, replaced: Option<u64>)
 impl Active {
     /// A table with no number, with room for so many.
     pub fn new(alloc: Global, room: usize) -> Result<Active, NoMemory>
-        ensures { IfOk result (λ active. active ≡ record { room = room; numbers = empty }) }
+        ensures empty { IfOk result (λ active. active ≡ record { room = room; numbers = empty }) }
+        ensures fits { IfOk result (λ active. (keys : KeyMap) → Fits keys active.numbers) }
     {
         Ok(Active {
             room,
@@ -96,8 +97,10 @@ impl Active {
         requires fits { Fits (R.keys keys.now) self.old.numbers }
         requires known { IsSome (get (R.keys keys.now) number) }
         requires absent { contains self.old.numbers number ≡ false }
-        ensures it { let keys = R.keys keys.now in TellsIt keys (get keys number) self.old.numbers result }
-        ensures none { let keys = R.keys keys.now in (result ≡ None) ↔ NobodyHas keys (get keys number) self.old.numbers }
+        ensures it { let keys = R.keys keys.now in
+            TellsIt keys (get keys number) self.old.numbers result }
+        ensures none { let keys = R.keys keys.now in
+            (result ≡ None) ↔ NobodyHas keys (get keys number) self.old.numbers }
         ensures active { self.new ≡ activated result number self.old }
         ensures fits { Fits (R.keys keys.now) self.new.numbers }
     {

@@ -8,7 +8,8 @@ use Rattle.cache_key.specs.KeyOf.{KeyMap}
 
 -- Each of the numbers has a key.
 abbrev pub AllKnown : KeyMap → List ℕ → Type 0
-AllKnown keys numbers = (number : ℕ) → list_any (λ n. nat_eq n number) numbers ≡ true → IsSome (get keys number)
+AllKnown keys numbers =
+    (number : ℕ) → list_any (λ n. nat_eq n number) numbers ≡ true → IsSome (get keys number)
 
 -- whether it is there, and this one
 abbrev pub is_key : Key → Option Key → Bool

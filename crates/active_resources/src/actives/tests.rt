@@ -33,7 +33,8 @@ impl Model for Keys {
 
 // Where a number stands, or how many there are where it does not.
 fn place_of(entries: &[(u64, EngineKey)], number: u64) -> usize
-    ensures { slice_get entries.now result ≡ option_map (λ key. (number, key)) (find nat_cmp number entries.now) }
+    ensures { slice_get entries.now result ≡
+        option_map (λ key. (number, key)) (find nat_cmp number entries.now) }
 {
     for i in 0..entries.len() {
         if entries[i].0 == number {

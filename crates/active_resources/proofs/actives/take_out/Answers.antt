@@ -1,4 +1,4 @@
-use Rattle.std.proofs.Common.{◌≡◌, ℕ, rules, eqb}
+use Rattle.std.proofs.Common.{ℕ, rules, eqb}
 use Rattle.std.specs.Prelude.{not}
 use Rattle.std.proofs.lemmas.Fn.{filter_same}
 use Rattle.active_resources.proofs.actives.take_out.Goals as goal

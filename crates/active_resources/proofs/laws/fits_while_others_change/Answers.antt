@@ -1,10 +1,7 @@
-use Rattle.std.proofs.Common.{◌≡◌, ◌≢◌, ℕ, true, false, subst}
 use Rattle.std.specs.FinMap.{nat_cmp-IsAntisymmetric}
 use Rattle.std.specs.FinSet.{contains}
 use Rattle.std.proofs.lemmas.Cmp.{nat_cmp_total}
-use Rattle.cache_key.specs.KeyOf.{KeyMap}
 use Rattle.finite_maps.specs.MapLaws.{get-insert_other, get-remove_other}
-use Rattle.active_resources.specs.Actives.{Numbers}
 use Rattle.active_resources.proofs.Sets.{fits-same, other_member}
 use Rattle.active_resources.proofs.laws.fits_while_others_change.Goals as goal
 

@@ -5,8 +5,9 @@ use Rattle.active_resources.proofs.worked.worked_tables.Goals as goal
 
 pub returns-clause-apart : goal.returns-clause-apart
 returns-clause-apart c = can-listed entries (1 ∷ 2 ∷ []) (refl, (refl, tt)) (
-      (λ e. refl, (λ e. let no : 2 ≡ 3 = ap width_in e in absurd (omega (arith, no)), tt)),
-      ((λ e. let no : 3 ≡ 2 = ap width_in e in absurd (omega (arith, no)), (λ e. refl, tt)), tt))
+  (λ e. refl, (λ e. let no : 2 ≡ 3 = ap width_in e in absurd (omega (arith, no)), tt)),
+  ((λ e. let no : 3 ≡ 2 = ap width_in e in absurd (omega (arith, no)), (λ e. refl, tt)), tt),
+)
 
 pub returns-clause-one_key : goal.returns-clause-one_key
 returns-clause-one_key c = cannot-alike entries (1 ∷ 3 ∷ []) 1 3 refl refl refl (λ e. omega (arith, e))

@@ -1,7 +1,6 @@
 use Rattle.std.proofs.Common.{◌≡◌, ℕ, ◌+◌, ◌<◌, ◌≤◌, ◌∷◌, ◌++◌, [], length, List, Option, Some, None, cond, false, eqb, ap, sym, subst, ◌∙◌, arith}
 use Rattle.std.specs.Prelude.{◌↔◌}
 use Rattle.std.specs.List.{find, list_any}
-use Rattle.std.specs.FinMap.{get}
 use Rattle.std.specs.FinSet.{contains, insert, len, from_list, contains-from_list_nat}
 use Rattle.std.proofs.lemmas.List.{length-append}
 use Rattle.cache_key.specs.Key.{Key}

@@ -1,6 +1,6 @@
-use Rattle.std.proofs.Common.{◌≡◌, ℕ, Some, ap, ◌∙◌}
+use Rattle.std.proofs.Common.{ap, ◌∙◌}
 use Rattle.std.specs.List.{find}
-use Rattle.active_resources.specs.Actives.{Numbers, ActiveValue}
+use Rattle.active_resources.specs.Actives.{ActiveValue}
 use Rattle.active_resources.specs.inside.Numbers.{has_key}
 use Rattle.active_resources.proofs.Sets.{known-list, found-it, found-none}
 use Rattle.active_resources.proofs.actives.Active.find.Goals as goal
