@@ -8,4 +8,5 @@ u16_at at text = from_le_bytes w16 (slice_index text at ∷ slice_index text (at
 
 -- the number of four bytes from this place on
 abbrev pub u32_at : ℕ → List ℕ → ℕ
-u32_at at text = from_le_bytes w32 (slice_index text at ∷ slice_index text (at + 1) ∷ slice_index text (at + 2) ∷ slice_index text (at + 3) ∷ [])
+u32_at at text = from_le_bytes w32 (slice_index text at ∷ slice_index text (at + 1)
+    ∷ slice_index text (at + 2) ∷ slice_index text (at + 3) ∷ [])

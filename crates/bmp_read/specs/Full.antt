@@ -1,5 +1,6 @@
--- The full picture of a text, or the first rule that it breaks. The picture is that of a Windows bitmap; that a broken rule has
--- a name, and which of several comes first, is this project's own: the rules of the headers in their order, then the raster's.
+-- The full picture of a text, or the first rule that it breaks. The picture is that of a Windows bitmap;
+-- that a broken rule has a name, and which of several comes first, is this project's own: the rules of
+-- the headers in their order, then the raster's.
 use Rattle.std.specs.Prelude.{ℕ, List, Result}
 use Rattle.bmp_read.specs.declared.fault.BmpFault.{BmpFault}
 use Rattle.bmp_read.specs.declared.header.Head.{Head}

@@ -1,6 +1,7 @@
--- The headers of a Windows bitmap: the file header, BITMAPFILEHEADER, of 14 bytes, and after it an info header, which is
--- BITMAPINFOHEADER, BITMAPV4HEADER or BITMAPV5HEADER. A place is counted in bytes from the text's beginning. Which rules there are,
--- their order, that masks are runs of 1 bits and that all other fields are ignored, is this project's own.
+-- The headers of a Windows bitmap: the file header, BITMAPFILEHEADER, of 14 bytes, and after it an info
+-- header, which is BITMAPINFOHEADER, BITMAPV4HEADER or BITMAPV5HEADER. A place is counted in bytes from
+-- the text's beginning. Which rules there are, their order, that masks are runs of 1 bits and that all
+-- other fields are ignored, is this project's own.
 use Rattle.std.specs.Prelude.{ℕ, ◌+◌, ◌-◌, ◌*◌, ◌/◌, ◌^◌, ◌<◌, ◌≤◌, Bool, false, not, ◌&&◌, ◌||◌, ◌==◌, nat_le, nat_lt, List, [], ◌∷◌, length, if◌then◌else◌, Ok, Err, Result}
 use Rattle.std.specs.Int.{w32, trailing_zeros, is_power_of_two}
 use Rattle.bmp_read.specs.declared.fault.BmpFault.{BmpFault}
@@ -35,29 +36,36 @@ info_size_at text =
     else (if not (u16_at 26 text == 1) then Err BadHeader
     else Ok (u32_at 14 text)))))
 
+-- A side stays below 2 to the 31st: up to there a number of 32 bits in two's complement stands for itself.
+abbrev pub side_limit : ℕ
+side_limit = 2 ^ 31
+
 -- a side is from 1 to 2,147,483,647
 abbrev pub IsSide : ℕ → Type 0
-IsSide n = (1 ≤ n) × (n < 2 ^ 31)
+IsSide n = (1 ≤ n) × (n < side_limit)
 
 -- both sides are
 pub record HasSides (head : Head) : Type 0 where
   pub wide : IsSide head.width
   pub high : IsSide head.height
 
--- The width, the height without its sign, and the order of the rows. Both are signed numbers of 32 bits in two's complement: below
--- 2 to the 31st a number stands for itself, and from there on for 2 to the 32nd less. The width is above 0. The height is not 0
--- and not the least number. Where it is below 0, the first row in the file is the top one, and else the bottom one.
+-- The width, the height without its sign, and the order of the rows. Both are signed numbers of 32 bits
+-- in two's complement: below 2 to the 31st a number stands for itself, and from there on for 2 to the
+-- 32nd less. The width is above 0. The height is not 0 and not the least number. Where it is below 0, the
+-- first row in the file is the top one, and else the bottom one.
 unfoldable pub size_at : List ℕ → Result (ℕ × ℕ × RowOrder) BmpFault
 size_at text =
     let width = u32_at 18 text in
     let height = u32_at 22 text in
-    if width == 0 || nat_le (2 ^ 31) width then Err BadSize
-    else (if height == 0 || height == 2 ^ 31 then Err BadSize
-    else (if nat_lt height (2 ^ 31) then Ok (width, height, BottomFirst) else Ok (width, 2 ^ 32 - height, TopFirst)))
+    if width == 0 || nat_le side_limit width then Err BadSize
+    else (if height == 0 || height == side_limit then Err BadSize
+    else (if nat_lt height side_limit then Ok (width, height, BottomFirst)
+    else Ok (width, 2 ^ 32 - height, TopFirst)))
 
 -- The bits of a pixel. With masks, which compression 3 says, there are 16 or 32.
 abbrev pub is_depth : ℕ → ℕ → Bool
-is_depth compression bits = bits == 16 || bits == 32 || (compression == 0 && (bits == 1 || bits == 4 || bits == 8 || bits == 24))
+is_depth compression bits = bits == 16 || bits == 32
+    || (compression == 0 && (bits == 1 || bits == 4 || bits == 8 || bits == 24))
 
 -- the compression, 0 or 3 (BI_RGB and BI_BITFIELDS), and the bits of a pixel
 unfoldable pub depth_at : List ℕ → Result (ℕ × ℕ) BmpFault
@@ -79,7 +87,8 @@ is_run mask = mask == 0 || is_power_of_two (moved_down mask mask + 1)
 abbrev pub is_mask : ℕ → ℕ → Bool
 is_mask bits mask = is_run mask && (bits == 32 || nat_lt mask 65536)
 
--- The masks. The alpha mask is a field of the longer info headers only. Behind the shortest one stand the three others.
+-- The masks. The alpha mask is a field of the longer info headers only. After the shortest one stand the
+-- three others.
 abbrev pub stored_masks : ℕ → List ℕ → Masks
 stored_masks info_size text = record {
   red = u32_at 54 text;
@@ -90,7 +99,8 @@ stored_masks info_size text = record {
 
 -- all four are
 abbrev pub are_masks : ℕ → Masks → Bool
-are_masks bits masks = is_mask bits masks.red && is_mask bits masks.green && is_mask bits masks.blue && is_mask bits masks.alpha
+are_masks bits masks = is_mask bits masks.red && is_mask bits masks.green && is_mask bits masks.blue
+    && is_mask bits masks.alpha
 
 -- the masks, or what is wrong with them
 unfoldable pub masks_at : ℕ → ℕ → List ℕ → Result Masks BmpFault
@@ -99,7 +109,8 @@ masks_at info_size bits text =
     if info_size == 40 && nat_lt (length text) 66 then Err Truncated
     else (if are_masks bits masks then Ok masks else Err BadMasks)
 
--- how many entries a palette has: as many as the header says, or all that the bits can tell apart where it says 0 or more
+-- how many entries a palette has: as many as the header says, or all that the bits can tell apart where
+-- it says 0 or more
 abbrev pub palette_count : ℕ → ℕ → ℕ
 palette_count bits stored = if stored == 0 || nat_lt (2 ^ bits) stored then 2 ^ bits else stored
 
@@ -108,11 +119,15 @@ unfoldable pub palette_at : ℕ → ℕ → List ℕ → Result Palette BmpFault
 palette_at info_size bits text =
     let start = 14 + info_size in
     let count = palette_count bits (u32_at 46 text) in
-    if nat_lt (length text) (start + 4 * count) then Err Truncated else Ok record { start = start; count = count }
+    if nat_lt (length text) (start + 4 * count) then Err Truncated
+    else Ok record { start = start; count = count }
 
 -- how pixels of a palette are stored
 abbrev pub indexed : ℕ → Palette → Format
-indexed bits palette = if bits == 1 then Indexed1 palette else (if bits == 4 then Indexed4 palette else Indexed8 palette)
+indexed bits palette =
+    if bits == 1 then Indexed1 palette
+    else (if bits == 4 then Indexed4 palette
+    else Indexed8 palette)
 
 -- of masks
 abbrev pub masked : ℕ → Masks → Format
@@ -129,11 +144,18 @@ format_of info_size compression bits text =
     else (if nat_le bits 8 then palette_at info_size bits text >>= (λ palette. Ok (indexed bits palette))
     else Ok (direct bits))
 
--- The size, and how and where the pixels are stored. That the raster lies inside the text is for those who read rows to see.
+-- The size, and how and where the pixels are stored. That the raster lies inside the text is for those
+-- who read rows to see.
 unfoldable pub head_of : List ℕ → Result Head BmpFault
 head_of text = do
   info_size ← info_size_at text
   size ← size_at text
   depth ← depth_at text
   format ← format_of info_size depth.0 depth.1 text
-  Ok record { width = size.0; height = size.1; order = size.2; format = format; raster_start = u32_at 10 text }
+  Ok record {
+    width = size.0;
+    height = size.1;
+    order = size.2;
+    format = format;
+    raster_start = u32_at 10 text;
+  }

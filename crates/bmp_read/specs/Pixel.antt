@@ -1,5 +1,5 @@
--- Pixels as they are stored in a row, as the BMP headers of Windows have them. That an index past the palette is opaque black,
--- which bytes are ignored, and how samples are rounded, is this project's own.
+-- Pixels as they are stored in a row, as the BMP headers of Windows have them. That an index past the
+-- palette is opaque black, which bytes are ignored, and how samples are rounded, is this project's own.
 use Rattle.std.specs.Prelude.{◌≡◌, true, ℕ, ◌+◌, ◌-◌, ◌*◌, ◌/◌, ◌%◌, ◌^◌, ◌≤◌, ⊤, length, ◌==◌, nat_lt, List, [], ◌∷◌, slice_index, bit_and, if◌then◌else◌}
 use Rattle.bmp_read.specs.declared.format.Format.{Format}
 use Rattle.bmp_read.specs.declared.format.Format.TheVariants.{Indexed1, Indexed4, Indexed8, Rgb555, Bgr24, Bgr32, Masked16, Masked32}
@@ -20,13 +20,14 @@ bits_of Bgr32 = 32
 bits_of (Masked16 masks) = 16
 bits_of (Masked32 masks) = 32
 
--- blue, green and red from this place on, as red, green, blue and an alpha that hides what is behind
+-- blue, green and red from this place on, as red, green, blue and an alpha of no transparency
 abbrev pub bgr_at : ℕ → List ℕ → List ℕ
 bgr_at at bytes = slice_index bytes (at + 2) ∷ slice_index bytes (at + 1) ∷ slice_index bytes at ∷ 255 ∷ []
 
 -- The colour of an index. An entry of the palette is blue, green, red and a byte that is ignored.
 abbrev pub palette_colour : Palette → List ℕ → ℕ → List ℕ
-palette_colour palette text index = if nat_lt index palette.count then bgr_at (palette.start + 4 * index) text else 0 ∷ 0 ∷ 0 ∷ 255 ∷ []
+palette_colour palette text index =
+    if nat_lt index palette.count then bgr_at (palette.start + 4 * index) text else 0 ∷ 0 ∷ 0 ∷ 255 ∷ []
 
 -- Indexes of less than a byte: the leftmost pixel has the highest bits.
 abbrev pub index1 : List ℕ → ℕ → ℕ
@@ -38,16 +39,20 @@ index4 row x = slice_index row (x / 2) / 16 ^ (1 - x % 2) % 16
 
 -- red is bits 10 to 14, green bits 5 to 9 and blue bits 0 to 4
 abbrev pub rgb555 : ℕ → List ℕ
-rgb555 value = scaled 31 (value / 2 ^ 10 % 32) ∷ scaled 31 (value / 2 ^ 5 % 32) ∷ scaled 31 (value % 32) ∷ 255 ∷ []
+rgb555 value =
+    scaled 31 (value / 2 ^ 10 % 32) ∷ scaled 31 (value / 2 ^ 5 % 32) ∷ scaled 31 (value % 32) ∷ 255 ∷ []
 
--- A channel by its mask: the masked bits, moved down to bit 0, and their maximum is the mask, moved down likewise. A mask of 0 has
--- none, and something else stands for it.
+-- A channel by its mask: the masked bits, moved down to bit 0, and their maximum is the mask, moved down
+-- likewise. A mask of 0 has none, and something else stands for it.
 abbrev pub channel : ℕ → ℕ → ℕ → ℕ
-channel mask absent value = if mask == 0 then absent else scaled (moved_down mask mask) (moved_down mask (bit_and value mask))
+channel mask absent value =
+    if mask == 0 then absent else scaled (moved_down mask mask) (moved_down mask (bit_and value mask))
 
 -- red, green, blue and alpha by their masks
 abbrev pub masked_colour : Masks → ℕ → List ℕ
-masked_colour masks value = channel masks.red 0 value ∷ channel masks.green 0 value ∷ channel masks.blue 0 value ∷ channel masks.alpha 255 value ∷ []
+masked_colour masks value =
+    channel masks.red 0 value ∷ channel masks.green 0 value ∷ channel masks.blue 0 value
+    ∷ channel masks.alpha 255 value ∷ []
 
 -- the palette, if there is one, lies inside the text
 abbrev pub IsPaletteInside : Palette → List ℕ → Type 0

@@ -1,6 +1,6 @@
--- The raster, as the BMP headers of Windows have it: each row begins at a multiple of four bytes after the raster's beginning, and the
--- rows come from the bottom, or from the top where the height is below 0. That a raster which does not lie inside the text has
--- no rows is this project's own.
+-- The raster, as the BMP headers of Windows have it: each row begins at a multiple of four bytes after
+-- the raster's beginning, and the rows come from the bottom, or from the top where the height is below 0.
+-- That a raster which does not lie inside the text has no rows is this project's own.
 use Rattle.std.specs.Prelude.{ℕ, zero, suc, ◌+◌, ◌-◌, ◌*◌, ◌/◌, nat_le, List, [], ◌∷◌, length, take, drop, if◌then◌else◌, Some, None, Bool}
 use Rattle.std.specs.List.{flat_map, range_with_len}
 use Rattle.bmp_read.specs.declared.fault.BmpFault.{BmpFault}
@@ -21,7 +21,8 @@ has_raster head text = nat_le (head.raster_start + row_length head * head.height
 
 -- the bytes of a stored row, counted from the raster's beginning
 abbrev pub stored_row : Head → List ℕ → ℕ → List ℕ
-stored_row head text index = take (row_length head) (drop (row_length head * index) (drop head.raster_start text))
+stored_row head text index =
+    take (row_length head) (drop (row_length head * index) (drop head.raster_start text))
 
 -- where in the file the row stands that has so many rows above it
 abbrev pub stored_index : RowOrder → ℕ → ℕ → ℕ
@@ -34,7 +35,9 @@ pixels pixel width = flat_map pixel (range_with_len 0 width)
 
 -- the row that has so many rows above it
 unfoldable pub row_at : Head → List ℕ → ℕ → List ℕ
-row_at head text above = pixels (pixel_at head.format text (stored_row head text (stored_index head.order head.height above))) head.width
+row_at head text above =
+    let index = stored_index head.order head.height above in
+    pixels (pixel_at head.format text (stored_row head text index)) head.width
 
 -- the last rows of the picture, so many, from the top
 abbrev pub last_rows : Head → List ℕ → ℕ → List (List ℕ)

@@ -1,5 +1,5 @@
-// Rows of colours of a fixed layout. The loops over a row stay functions of their own, so that they keep their values in
-// registers.
+// Rows of colours of a fixed layout. The loops over a row stay functions of their own, so that they keep
+// their values in registers.
 ghost use Rattle.std.specs.Prelude.{◌≡◌, ◌≤◌, ◌*◌, length};
 ghost use Rattle.picture_rows.specs.PixelBytes.{rgba_bytes};
 ghost use Rattle.bmp_read.specs.Pixel.{bgr_at, rgb555};

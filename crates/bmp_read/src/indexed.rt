@@ -1,5 +1,5 @@
-// Rows of indexes into a palette. The loops over a row stay functions of their own, so that they keep their values in
-// registers.
+// Rows of indexes into a palette. The loops over a row stay functions of their own, so that they keep
+// their values in registers.
 ghost use Rattle.std.specs.Prelude.{◌≡◌, ◌≤◌, ◌<◌, ◌/◌, ◌+◌, ◌*◌, length, slice_index};
 ghost use Rattle.picture_rows.specs.PixelBytes.{rgba_bytes};
 ghost use Rattle.bmp_read.specs.Pixel.{palette_colour, index1, index4, IsPaletteInside};

@@ -1,5 +1,5 @@
-// Rows of colours by masks. The loops over a row stay functions of their own, so that they keep their values in
-// registers.
+// Rows of colours by masks. The loops over a row stay functions of their own, so that they keep their
+// values in registers.
 ghost use Rattle.std.specs.Prelude.{◌≡◌, ◌≤◌, ◌<◌, ◌^◌, ◌*◌, true, length, IsTrue};
 ghost use Rattle.picture_rows.specs.PixelBytes.{rgba_bytes};
 ghost use Rattle.bmp_read.specs.Header.{are_masks};
@@ -35,7 +35,8 @@ fn masked_colour(masks: Masks, value: u32) -> Rgba
     }
 }
 
-// What a mask of at most 16 bits says of a channel, made once for a row, so that none of its pixels needs a division.
+// What a mask of at most 16 bits says of a channel, made once for a row, so that none of its pixels needs
+// a division.
 #[derive(Clone, Copy)]
 pub(crate) struct ChannelScale {
     pub(crate) mask: u32,

@@ -35,7 +35,8 @@ impl<'a> Model for Rows<'a> {
 
     ghost view = { λ s. rows_of s.head s.height_left s.text.now };
 
-    ghost invariant = { λ s. IsFormatIn s.head.format s.text.now × HasSides s.head × (s.height_left ≤ s.head.height) };
+    ghost invariant = { λ s. IsFormatIn s.head.format s.text.now × HasSides s.head
+        × (s.height_left ≤ s.head.height) };
 }
 
 // How many bits a pixel has.

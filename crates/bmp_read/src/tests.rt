@@ -71,7 +71,7 @@ const COMPRESSED: [u8; 62] = *b"BM\x3e\x00\x00\x00\x00\x00\x00\x00\x3e\x00\x00\x
     \x01\x02\x03\x00\x0a\x0b\x0c\x00\
     ";
 
-// The definition itself on worked texts, computed where the tests are proved. Behind `BM` they are
+// The definition itself on worked texts, computed where the tests are proved. After `BM` they are
 // fields of four bytes: the text's length, 0, the raster's place, the info header's length, the
 // width, the height, planes and bits, the compression, and so on.
 fn worked_texts()
@@ -79,24 +79,40 @@ fn worked_texts()
         (62 ∷ 0 ∷ 54 ∷ 40 ∷ 1 ∷ 2 ∷ 0x0018_0001 ∷ 0 ∷ 0 ∷ 0 ∷ 0 ∷ 0 ∷ 0 ∷ 0x0003_0201 ∷ 0x0006_0504 ∷ []))
         ≡ Ok record { width = 1; height = 2; pixels = 6 ∷ 5 ∷ 4 ∷ 255 ∷ 3 ∷ 2 ∷ 1 ∷ 255 ∷ [] } }
     ensures past_the_palette { full_picture (codes "BM" ++ flat_map (to_le_bytes w32)
-        (66 ∷ 0 ∷ 62 ∷ 40 ∷ 3 ∷ 0xffff_ffff ∷ 0x0004_0001 ∷ 0 ∷ 0 ∷ 0 ∷ 0 ∷ 2 ∷ 0 ∷ 0x000c_0b0a ∷ 0x000f_0e0d ∷ 0x0000_2001 ∷ []))
-        ≡ Ok record { width = 3; height = 1; pixels = 12 ∷ 11 ∷ 10 ∷ 255 ∷ 15 ∷ 14 ∷ 13 ∷ 255 ∷ 0 ∷ 0 ∷ 0 ∷ 255 ∷ [] } }
+        (66 ∷ 0 ∷ 62 ∷ 40 ∷ 3 ∷ 0xffff_ffff ∷ 0x0004_0001 ∷ 0 ∷ 0 ∷ 0 ∷ 0 ∷ 2 ∷ 0 ∷ 0x000c_0b0a
+        ∷ 0x000f_0e0d ∷ 0x0000_2001 ∷ []))
+        ≡ Ok record {
+          width = 3;
+          height = 1;
+          pixels = 12 ∷ 11 ∷ 10 ∷ 255 ∷ 15 ∷ 14 ∷ 13 ∷ 255 ∷ 0 ∷ 0 ∷ 0 ∷ 255 ∷ [];
+        } }
     ensures masks { full_picture (codes "BM" ++ flat_map (to_le_bytes w32)
-        (134 ∷ 0 ∷ 122 ∷ 108 ∷ 3 ∷ 0xffff_ffff ∷ 0x0020_0001 ∷ 3 ∷ 12 ∷ 0 ∷ 0 ∷ 0 ∷ 0 ∷ 0x00ff_0000 ∷ 0x0000_ff00 ∷ 0x0000_00ff ∷ 0xff00_0000 ∷ [])
+        (134 ∷ 0 ∷ 122 ∷ 108 ∷ 3 ∷ 0xffff_ffff ∷ 0x0020_0001 ∷ 3 ∷ 12 ∷ 0 ∷ 0 ∷ 0 ∷ 0 ∷ 0x00ff_0000
+        ∷ 0x0000_ff00 ∷ 0x0000_00ff ∷ 0xff00_0000 ∷ [])
         ++ replicate 52 0 ++ flat_map (to_le_bytes w32) (0x6100_0000 ∷ 0x6200_0000 ∷ 0x6300_0000 ∷ []))
-        ≡ Ok record { width = 3; height = 1; pixels = 0 ∷ 0 ∷ 0 ∷ 97 ∷ 0 ∷ 0 ∷ 0 ∷ 98 ∷ 0 ∷ 0 ∷ 0 ∷ 99 ∷ [] } }
+        ≡ Ok record {
+          width = 3;
+          height = 1;
+          pixels = 0 ∷ 0 ∷ 0 ∷ 97 ∷ 0 ∷ 0 ∷ 0 ∷ 98 ∷ 0 ∷ 0 ∷ 0 ∷ 99 ∷ [];
+        } }
     ensures short { full_picture (codes "BM" ++ flat_map (to_le_bytes w32)
-        (62 ∷ 0 ∷ 54 ∷ 40 ∷ 1 ∷ 2 ∷ 0x0018_0001 ∷ 0 ∷ 0 ∷ 0 ∷ 0 ∷ 0 ∷ 0 ∷ 0x0003_0201 ∷ [])) ≡ Err BmpFault.Truncated }
+        (62 ∷ 0 ∷ 54 ∷ 40 ∷ 1 ∷ 2 ∷ 0x0018_0001 ∷ 0 ∷ 0 ∷ 0 ∷ 0 ∷ 0 ∷ 0 ∷ 0x0003_0201 ∷ []))
+        ≡ Err BmpFault.Truncated }
     ensures product_past_32_bits { full_picture (codes "BM" ++ flat_map (to_le_bytes w32)
-        (54 ∷ 0 ∷ 54 ∷ 40 ∷ 65536 ∷ 16384 ∷ 0x0020_0001 ∷ 0 ∷ 0 ∷ 0 ∷ 0 ∷ 0 ∷ 0 ∷ [])) ≡ Err BmpFault.Truncated }
+        (54 ∷ 0 ∷ 54 ∷ 40 ∷ 65536 ∷ 16384 ∷ 0x0020_0001 ∷ 0 ∷ 0 ∷ 0 ∷ 0 ∷ 0 ∷ 0 ∷ []))
+        ≡ Err BmpFault.Truncated }
     ensures longest_sides { full_picture (codes "BM" ++ flat_map (to_le_bytes w32)
-        (54 ∷ 0 ∷ 54 ∷ 40 ∷ 0x7fff_ffff ∷ 0x8000_0001 ∷ 0x0020_0001 ∷ 0 ∷ 0 ∷ 0 ∷ 0 ∷ 0 ∷ 0 ∷ [])) ≡ Err BmpFault.Truncated }
+        (54 ∷ 0 ∷ 54 ∷ 40 ∷ 0x7fff_ffff ∷ 0x8000_0001 ∷ 0x0020_0001 ∷ 0 ∷ 0 ∷ 0 ∷ 0 ∷ 0 ∷ 0 ∷ []))
+        ≡ Err BmpFault.Truncated }
     ensures too_wide { full_picture (codes "BM" ++ flat_map (to_le_bytes w32)
-        (54 ∷ 0 ∷ 54 ∷ 40 ∷ 0x8000_0000 ∷ 1 ∷ 0x0020_0001 ∷ 0 ∷ 0 ∷ 0 ∷ 0 ∷ 0 ∷ 0 ∷ [])) ≡ Err BmpFault.BadSize }
+        (54 ∷ 0 ∷ 54 ∷ 40 ∷ 0x8000_0000 ∷ 1 ∷ 0x0020_0001 ∷ 0 ∷ 0 ∷ 0 ∷ 0 ∷ 0 ∷ 0 ∷ []))
+        ≡ Err BmpFault.BadSize }
     ensures too_high { full_picture (codes "BM" ++ flat_map (to_le_bytes w32)
-        (54 ∷ 0 ∷ 54 ∷ 40 ∷ 1 ∷ 0x8000_0000 ∷ 0x0020_0001 ∷ 0 ∷ 0 ∷ 0 ∷ 0 ∷ 0 ∷ 0 ∷ [])) ≡ Err BmpFault.BadSize }
+        (54 ∷ 0 ∷ 54 ∷ 40 ∷ 1 ∷ 0x8000_0000 ∷ 0x0020_0001 ∷ 0 ∷ 0 ∷ 0 ∷ 0 ∷ 0 ∷ 0 ∷ []))
+        ≡ Err BmpFault.BadSize }
     ensures compressed { full_picture (codes "BM" ++ flat_map (to_le_bytes w32)
-        (62 ∷ 0 ∷ 62 ∷ 40 ∷ 3 ∷ 1 ∷ 0x0008_0001 ∷ 1 ∷ 0 ∷ 0 ∷ 0 ∷ 2 ∷ 0 ∷ 0x000c_0b0a ∷ 0x000f_0e0d ∷ [])) ≡ Err (BmpFault.Compressed 1) }
+        (62 ∷ 0 ∷ 62 ∷ 40 ∷ 3 ∷ 1 ∷ 0x0008_0001 ∷ 1 ∷ 0 ∷ 0 ∷ 0 ∷ 2 ∷ 0 ∷ 0x000c_0b0a ∷ 0x000f_0e0d ∷ []))
+        ≡ Err (BmpFault.Compressed 1) }
 {}
 
 // A header's size, or its fault.

@@ -1,4 +1,4 @@
--- ChannelScales by masks, as the code scales them without a division: this project's own.
+-- Channels by masks, as the code scales them without a division.
 use Rattle.std.specs.Prelude.{◌≡◌, ℕ, ◌<◌, ◌≤◌, ◌/◌, ◌^◌, Bool, ◌&&◌, ◌||◌, ◌==◌, nat_lt, bit_and}
 use Rattle.std.specs.Int.{w32, trailing_zeros}
 use Rattle.picture_rows.specs.Scale.{IsScale}
@@ -13,7 +13,8 @@ is_narrow mask = mask == 0 || nat_lt (moved_down mask mask) 65536
 
 -- all four masks have
 abbrev pub are_narrow : Masks → Bool
-are_narrow masks = is_narrow masks.red && is_narrow masks.green && is_narrow masks.blue && is_narrow masks.alpha
+are_narrow masks = is_narrow masks.red && is_narrow masks.green && is_narrow masks.blue
+    && is_narrow masks.alpha
 
 -- a masked value is shifted down to a sample of the scale's maximum
 pub record IsChannelScale (by : ChannelScale) : Type 0 where
