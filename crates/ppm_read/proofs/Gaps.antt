@@ -1,5 +1,6 @@
 -- Gaps and numbers, as they are spelled and as they are read.
 use Rattle.std.proofs.Common.{◌≡◌, ℕ, suc, ◌+◌, ◌<◌, ◌≤◌, ◌^◌, ◌&&◌, ◌||◌, Bool, true, false, not, cond, eqb, ltb, List, [], ◌∷◌, ◌++◌, length, take, drop, Result, Ok, Err, refl, sym, ap, subst, ◌∙◌, arith, append_assoc, append-nil}
+use Rattle.std.proofs.lemmas.Bool.{and_parts, and_from}
 use borrow.Author.Tests.{ltb-true, lt-ltb}
 use Rattle.std.proofs.lemmas.Bool.Decides.{nat_tests}
 use Rattle.std.proofs.lemmas.List.{take-append-drop, length-append}
@@ -33,9 +34,6 @@ pub record CommentFront (text : List ℕ) : Type 0 where
 abbrev pub Fronts : List ℕ → Type 0
 Fronts text = (0 < length (after_gap text) → GapFront text) × (0 < length (after_comment text) → CommentFront text)
 
-pub both_true : (a b : Bool) → a ≡ true → b ≡ true → (a && b) ≡ true
-both_true a b e f = ap (λ v. v && b) e ∙ f
-
 pub gap_white : (c : ℕ) (rest : List ℕ) → is_white c ≡ true → after_gap (c ∷ rest) ≡ after_gap rest
 gap_white c rest e = ap (λ v. cond v (after_gap rest) (cond (begins_comment c) (after_comment rest) (c ∷ rest))) e
 
@@ -61,7 +59,7 @@ front_gap c rest true h e f fronts lt =
     let more = fronts.0 (subst (λ l. 0 < length l) is lt) in
     record {
       parts = White c ∷ more.parts;
-      fit = both_true (is_white c) _ e more.fit;
+      fit = and_from (is_white c) _ e more.fit;
       spelled = ap (λ l. c ∷ l) (more.spelled ∙ ap (λ l. flat_map gap_bytes more.parts ++ l) (sym is));
     }
 front_gap c rest false true e f fronts lt =
@@ -69,7 +67,7 @@ front_gap c rest false true e f fronts lt =
     let more = fronts.1 (subst (λ l. 0 < length l) is lt) in
     record {
       parts = Comment more.bytes more.end ∷ more.parts;
-      fit = both_true _ _ (both_true _ _ more.inside more.stops) more.fit;
+      fit = and_from _ _ (and_from _ _ more.inside more.stops) more.fit;
       spelled = ap (λ v. v ∷ rest) (hash c f) ∙ ap (λ l. 35 ∷ l) (more.spelled ∙ ap (λ l. more.bytes ++ more.end ∷ (flat_map gap_bytes more.parts ++ l)) (sym is) ∙ sym (append_assoc (more.bytes ++ more.end ∷ []) (flat_map gap_bytes more.parts) (after_gap (c ∷ rest)) ∙ append_assoc more.bytes (more.end ∷ []) (flat_map gap_bytes more.parts ++ after_gap (c ∷ rest))));
     }
 front_gap c rest false false e f fronts lt = record { parts = []; fit = refl; spelled = sym (gap_none c rest e f) }
@@ -94,7 +92,7 @@ front_comment c rest false e fronts lt =
       bytes = c ∷ more.bytes;
       end = more.end;
       parts = more.parts;
-      inside = both_true (not (is_line_end c)) _ (ap not e) more.inside;
+      inside = and_from (not (is_line_end c)) _ (ap not e) more.inside;
       stops = more.stops;
       fit = more.fit;
       spelled = ap (λ l. c ∷ l) (more.spelled ∙ ap (λ l. more.bytes ++ more.end ∷ (flat_map gap_bytes more.parts ++ l)) (sym is));
@@ -105,10 +103,6 @@ fronts_of [] = (λ lt. absurd (omega arith), λ lt. absurd (omega arith))
 fronts_of (c ∷ rest) = (front_gap c rest (is_white c) (begins_comment c) refl refl (fronts_of rest), front_comment c rest (is_line_end c) refl (fronts_of rest))
 
 -- what is spelled as a gap is passed
-pub and_both : (a b : Bool) → (a && b) ≡ true → (a ≡ true) × (b ≡ true)
-and_both true b e = (refl, e)
-and_both false b e = cc
-
 pub not_true : (b : Bool) → not b ≡ true → b ≡ false
 not_true true e = cc
 not_true false e = refl
@@ -116,7 +110,7 @@ not_true false e = refl
 pub comment_behind : (bytes : List ℕ) (end : ℕ) (tail : List ℕ) → list_all (λ c. not (is_line_end c)) bytes ≡ true → is_line_end end ≡ true → after_comment (bytes ++ end ∷ tail) ≡ after_gap tail
 comment_behind [] end tail e f = comment_stops end tail f
 comment_behind (c ∷ bytes) end tail e f =
-    let both = and_both (not (is_line_end c)) _ e in
+    let both = and_parts (not (is_line_end c)) _ e in
     comment_goes c (bytes ++ end ∷ tail) (not_true (is_line_end c) both.0) ∙ comment_behind bytes end tail both.1 f
 
 gap_stops : (rest : List ℕ) → begins_with (λ c. is_white c || begins_comment c) rest ≡ false → after_gap rest ≡ rest
@@ -128,10 +122,10 @@ gap_stops (c ∷ rest) e = let parts = neither (is_white c) (begins_comment c) e
 
 pub gap_behind : (parts : List GapPart) (rest : List ℕ) → list_all is_gap_part parts ≡ true → begins_with (λ c. is_white c || begins_comment c) rest ≡ false → after_gap (flat_map gap_bytes parts ++ rest) ≡ rest
 gap_behind [] rest e stop = gap_stops rest stop
-gap_behind (White c ∷ parts) rest e stop = let both = and_both (is_white c) _ e in gap_white c (flat_map gap_bytes parts ++ rest) both.0 ∙ gap_behind parts rest both.1 stop
+gap_behind (White c ∷ parts) rest e stop = let both = and_parts (is_white c) _ e in gap_white c (flat_map gap_bytes parts ++ rest) both.0 ∙ gap_behind parts rest both.1 stop
 gap_behind (Comment bytes end ∷ parts) rest e stop =
-    let both = and_both _ (list_all is_gap_part parts) e in
-    let inner = and_both (list_all (λ c. not (is_line_end c)) bytes) (is_line_end end) both.0 in
+    let both = and_parts _ (list_all is_gap_part parts) e in
+    let inner = and_parts (list_all (λ c. not (is_line_end c)) bytes) (is_line_end end) both.0 in
     ap after_comment (append_assoc (bytes ++ end ∷ []) (flat_map gap_bytes parts) rest ∙ append_assoc bytes (end ∷ []) (flat_map gap_bytes parts ++ rest))
     ∙ comment_behind bytes end (flat_map gap_bytes parts ++ rest) inner.0 inner.1
     ∙ gap_behind parts rest both.1 stop
@@ -150,7 +144,7 @@ behind_stops p [] = refl
 behind_stops p (c ∷ rest) = stops_by p c rest (p c) refl (behind_stops p rest)
 
 front_by : (p : ℕ → Bool) (c : ℕ) (rest : List ℕ) (b : Bool) → p c ≡ b → list_all p (take_while p rest) ≡ true → list_all p (cond b (c ∷ take_while p rest) []) ≡ true
-front_by p c rest true e more = both_true (p c) _ e more
+front_by p c rest true e more = and_from (p c) _ e more
 front_by p c rest false e more = refl
 
 pub front_passes : (p : ℕ → Bool) (text : List ℕ) → list_all p (take_while p text) ≡ true
@@ -161,7 +155,7 @@ pub front_is : (p : ℕ → Bool) (xs rest : List ℕ) → list_all p xs ≡ tru
 front_is p [] [] e stop = (refl, refl)
 front_is p [] (c ∷ rest) e stop = (take_while-cons p c rest ∙ ap (λ b. cond b (c ∷ take_while p rest) []) stop, behind-cons p c rest false stop)
 front_is p (c ∷ xs) rest e stop =
-    let both = and_both (p c) (list_all p xs) e in
+    let both = and_parts (p c) (list_all p xs) e in
     let more = front_is p xs rest both.1 stop in
     (take_while-cons p c (xs ++ rest) ∙ ap (λ b. cond b (c ∷ take_while p (xs ++ rest)) []) both.0 ∙ ap (λ l. c ∷ l) more.0, behind-cons p c (xs ++ rest) true both.0 ∙ more.1)
 
@@ -230,7 +224,7 @@ no_gap c e = let range = in_range c e in grind (arith, nat_tests)
 
 pub digit_first : (digits rest : List ℕ) → 0 < length digits → list_all is_digit digits ≡ true → begins_with begins_gap (digits ++ rest) ≡ false
 digit_first [] rest lt e = absurd (omega arith)
-digit_first (d ∷ ds) rest lt e = no_gap d (and_both (is_digit d) _ e).0
+digit_first (d ∷ ds) rest lt e = no_gap d (and_parts (is_digit d) _ e).0
 
 pub some_parts : (parts : List GapPart) (text back : List ℕ) → text ≡ flat_map gap_bytes parts ++ back → begins_with begins_gap text ≡ true → begins_with begins_gap back ≡ false → 0 < length parts
 some_parts [] text back e first none = let same : begins_with begins_gap back ≡ true = ap (begins_with begins_gap) (sym e) ∙ first in cc
@@ -238,7 +232,7 @@ some_parts (p ∷ parts) text back e first none = omega arith
 
 pub gap_first : (parts : List GapPart) (rest : List ℕ) → 0 < length parts → list_all is_gap_part parts ≡ true → begins_with begins_gap (flat_map gap_bytes parts ++ rest) ≡ true
 gap_first [] rest lt e = absurd (omega arith)
-gap_first (White c ∷ parts) rest lt e = ap (λ v. v || begins_comment c) (and_both (is_white c) _ e).0
+gap_first (White c ∷ parts) rest lt e = ap (λ v. v || begins_comment c) (and_parts (is_white c) _ e).0
 gap_first (Comment bytes end ∷ parts) rest lt e = refl
 
 pub part_front : (text : List ℕ) (n : ℕ) (rest : List ℕ) → part_at text ≡ Ok (n, rest) → PartFront text n rest

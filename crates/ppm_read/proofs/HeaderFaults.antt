@@ -1,5 +1,6 @@
 -- What is wrong with a header, as it is spelled and as it is read.
 use Rattle.std.proofs.Common.{◌≡◌, ◌⊎◌, inl, inr, ℕ, ◌-◌, ◌<◌, ◌≤◌, ◌&&◌, Bool, true, false, cond, eqb, ltb, leb, List, [], ◌∷◌, ◌++◌, length, drop, Result, Ok, Err, refl, sym, ap, subst, ◌∙◌, arith}
+use Rattle.std.proofs.lemmas.Bool.{and_parts, and_from}
 use borrow.Author.Tests.{ltb-true, ltb-false, lt-ltb, leb-true, leb-false, lt-leb, le-leb}
 use Rattle.ppm_read.specs.declared.fault.PpmFault.{PpmFault}
 use Rattle.ppm_read.specs.declared.fault.PpmFault.TheVariants.{BadMagic, BadNumber, BadSize, BadMaximum}
@@ -14,7 +15,7 @@ use Rattle.ppm_read.specs.Header.{kind_of, magic_at, part_at, size_at, maximum_a
 use Rattle.ppm_read.specs.Spelling.{IsPart}
 use Rattle.ppm_read.specs.Breaking.{goes_on, PartBreaks, HasKind, HasWidth, HasSides, HasMaximum, HeaderBreaks, no_magic, in_width, in_height, no_size, in_maximum, no_maximum, no_end}
 use Rattle.ppm_read.proofs.Chains.{bind_ok, bind_err, cond_ok, inside, err_inside}
-use Rattle.ppm_read.proofs.Gaps.{and_both, both_true, part_front, part_spelled}
+use Rattle.ppm_read.proofs.Gaps.{part_front, part_spelled}
 use Rattle.ppm_read.proofs.Headers.{magic_front}
 use Rattle.ppm_read.proofs.Parts.{goes_stops, stops_goes, part_err, part_breaks}
 
@@ -94,7 +95,7 @@ head_sides text kind w h rest has =
 head_sized : (text : List ℕ) (kind : Channels × Format) (w h : ℕ) (rest : List ℕ) → HasSides text kind w h rest → 1 ≤ w → 1 ≤ h → head_of text ≡ at_maximum text kind.0 kind.1 w h rest
 head_sized text kind w h rest has wide high =
     head_sides text kind w h rest has
-    ∙ ap (λ b. chosen_size b w h rest >>= (λ s. at_maximum text kind.0 kind.1 s.0 s.1 s.2)) (both_true (ltb 0 w) (ltb 0 h) (lt-ltb 0 w wide) (lt-ltb 0 h high))
+    ∙ ap (λ b. chosen_size b w h rest >>= (λ s. at_maximum text kind.0 kind.1 s.0 s.1 s.2)) (and_from (ltb 0 w) (ltb 0 h) (lt-ltb 0 w wide) (lt-ltb 0 h high))
 
 abbrev chosen_maximum : Bool → ℕ × List ℕ → Result (ℕ × List ℕ) PpmFault
 chosen_maximum fits m = cond fits (Ok m) (Err BadMaximum)
@@ -158,7 +159,7 @@ maximum_breaks text kind m rest has wrong =
 pub end_fails : (text : List ℕ) (channels : Channels) (m : ℕ) (rest : List ℕ) → HasMaximum text (channels, Raw) m rest → 1 ≤ m → m ≤ 65535 → begins_with is_white rest ≡ false → head_of text ≡ Err BadNumber
 end_fails text channels m rest has low most none =
     head_maximum text (channels, Raw) m rest has
-    ∙ ap (λ b. chosen_maximum b (m, rest) >>= (λ m. at_raster text channels Raw has.w has.h m.0 m.1)) (both_true (ltb 0 m) (leb m 65535) (lt-ltb 0 m low) (le-leb m 65535 most))
+    ∙ ap (λ b. chosen_maximum b (m, rest) >>= (λ m. at_raster text channels Raw has.w has.h m.0 m.1)) (and_from (ltb 0 m) (leb m 65535) (lt-ltb 0 m low) (le-leb m 65535 most))
     ∙ ap (λ b. cond b (Ok (drop 1 rest)) (Err (missing_at rest)) >>= (λ r. Ok record { width = has.w; height = has.h; channels = channels; format = Raw; maximum = m; raster_start = length text - length r })) none
     ∙ ap Err (goes_missing rest has.goes)
 
@@ -220,7 +221,7 @@ sized_front text kind before s has e =
     let first = bind_ok (part_at before) (λ width. part_at width.1 >>= (λ height. tested_size width.0 height.0 height.1)) s e in
     let second = bind_ok (part_at first.0.1) (λ height. tested_size first.0.0 height.0 height.1) s first.2 in
     let test = cond_ok (ltb 0 first.0.0 && ltb 0 second.0.0) (Ok (first.0.0, second.0.0, second.0.1)) BadSize s second.2 in
-    let both = and_both (ltb 0 first.0.0) (ltb 0 second.0.0) test.0 in
+    let both = and_parts (ltb 0 first.0.0) (ltb 0 second.0.0) test.0 in
     subst (Sized text kind) (inside (first.0.0, second.0.0, second.0.1) s test.1) record {
       has = has_sides text kind first.0.0 first.0.1 second.0 (has_width text kind before first.0 has first.1) second.1;
       wide = ltb-true 0 first.0.0 both.0;
@@ -250,7 +251,7 @@ last_err : (text : List ℕ) (f : PpmFault) (kind : Channels × Format) (s : ℕ
 last_err text f kind s m sized is e =
     let part = bind_ok (part_at s.2) tested_maximum m (sym (maximum_part s.2) ∙ is) in
     let test = cond_ok (ltb 0 part.0.0 && leb part.0.0 65535) (Ok part.0) BadMaximum m part.2 in
-    let both = and_both (ltb 0 part.0.0) (leb part.0.0 65535) test.0 in
+    let both = and_parts (ltb 0 part.0.0) (leb part.0.0 65535) test.0 in
     let same = inside part.0 m test.1 in
     let has = subst (λ (x : ℕ × List ℕ). HasMaximum text kind x.0 x.1) same (has_maximum text kind s part.0 sized part.1) in
     let low = subst (λ (x : ℕ × List ℕ). 1 ≤ x.0) same (ltb-true 0 part.0.0 both.0) in

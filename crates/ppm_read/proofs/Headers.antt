@@ -1,5 +1,6 @@
 -- Headers, as they are spelled and as they are read.
 use Rattle.std.proofs.Common.{◌≡◌, ℕ, suc, ◌+◌, ◌-◌, ◌<◌, ◌≤◌, ◌&&◌, ◌||◌, Bool, true, false, not, cond, eqb, ltb, leb, List, [], ◌∷◌, ◌++◌, length, drop, Result, Ok, Err, refl, sym, ap, subst, ◌∙◌, arith, append_assoc, append-nil}
+use Rattle.std.proofs.lemmas.Bool.{and_parts, and_from}
 use borrow.Author.Tests.{ltb-true, lt-ltb, leb-true, le-leb}
 use Rattle.std.proofs.Math.Dec.{eqb-suc-zero}
 use Rattle.std.proofs.lemmas.Bool.Decides.{nat_tests}
@@ -16,7 +17,7 @@ use Rattle.ppm_read.specs.Header.{kind_of, magic_at, part_at, size_at, maximum_a
 use Rattle.ppm_read.specs.Spelling.{IsPart, IsEnd, IsHeader}
 use Rattle.ppm_read.proofs.Chains.{bind_ok, cond_ok, inside}
 use Rattle.ppm_read.proofs.Numbers.{in_range}
-use Rattle.ppm_read.proofs.Gaps.{begins_gap, part_front, part_spelled, part_first, and_both, both_true}
+use Rattle.ppm_read.proofs.Gaps.{begins_gap, part_front, part_spelled, part_first}
 
 -- more text, and no digit first
 pub record Starts (rest : List ℕ) : Type 0 where
@@ -65,7 +66,7 @@ size_front text x e =
     let w = part_front text first.0.0 first.0.1 first.1 in
     let h = part_front first.0.1 second.0.0 second.0.1 second.1 in
     let test = cond_ok (ltb 0 first.0.0 && ltb 0 second.0.0) (Ok (first.0.0, second.0.0, second.0.1)) BadSize x second.2 in
-    let both = and_both (ltb 0 first.0.0) (ltb 0 second.0.0) test.0 in
+    let both = and_parts (ltb 0 first.0.0) (ltb 0 second.0.0) test.0 in
     let P : ℕ × ℕ × List ℕ → Type 0 = λ y. SizeFront text y in
     subst P (inside (first.0.0, second.0.0, second.0.1) x test.1) record {
       width = w.part;
@@ -92,7 +93,7 @@ maximum_front text x e =
     let first = bind_ok (part_at text) _ x e in
     let m = part_front text first.0.0 first.0.1 first.1 in
     let test = cond_ok (ltb 0 first.0.0 && leb first.0.0 65535) (Ok first.0) BadMaximum x first.2 in
-    let both = and_both (ltb 0 first.0.0) (leb first.0.0 65535) test.0 in
+    let both = and_parts (ltb 0 first.0.0) (leb first.0.0 65535) test.0 in
     let P : ℕ × List ℕ → Type 0 = λ y. MaximumFront text y in
     subst P (inside first.0 x test.1) record {
       maximum = m.part;
@@ -195,13 +196,13 @@ size_spelled w h width height rest is_width is_height wide high begins =
     let test : ℕ → ℕ → List ℕ → Result (ℕ × ℕ × List ℕ) PpmFault = λ w h rest. cond (ltb 0 w && ltb 0 h) (Ok (w, h, rest)) (Err BadSize) in
     ap (λ r. r >>= (λ width. part_at width.1 >>= (λ height. test width.0 height.0 height.1))) (part_spelled w width (height ++ rest) is_width behind_width.stops behind_width.whole)
     ∙ ap (λ r. r >>= (λ height. test w height.0 height.1)) (part_spelled h height rest is_height behind_height.stops behind_height.whole)
-    ∙ ap (λ b. cond b (Ok (w, h, rest)) (Err BadSize)) (both_true (ltb 0 w) (ltb 0 h) (lt-ltb 0 w wide) (lt-ltb 0 h high))
+    ∙ ap (λ b. cond b (Ok (w, h, rest)) (Err BadSize)) (and_from (ltb 0 w) (ltb 0 h) (lt-ltb 0 w wide) (lt-ltb 0 h high))
 
 maximum_spelled : (m : ℕ) (maximum rest : List ℕ) → IsPart m maximum → 1 ≤ m → m ≤ 65535 → Starts rest → maximum_at (maximum ++ rest) ≡ Ok (m, rest)
 unfolding maximum_at
 maximum_spelled m maximum rest is low most behind =
     ap (λ r. r >>= (λ maximum. cond (ltb 0 maximum.0 && leb maximum.0 65535) (Ok maximum) (Err BadMaximum))) (part_spelled m maximum rest is behind.stops behind.whole)
-    ∙ ap (λ b. cond b (Ok (m, rest)) (Err BadMaximum)) (both_true (ltb 0 m) (leb m 65535) (lt-ltb 0 m low) (le-leb m 65535 most))
+    ∙ ap (λ b. cond b (Ok (m, rest)) (Err BadMaximum)) (and_from (ltb 0 m) (leb m 65535) (lt-ltb 0 m low) (le-leb m 65535 most))
 
 -- the same header, with its raster where it begins
 abbrev pub placed : Head → List ℕ → Head

@@ -1,5 +1,6 @@
 -- What is wrong where a gap and a number are due.
 use Rattle.std.proofs.Common.{◌≡◌, ◌⊎◌, inl, inr, ℕ, suc, ◌<◌, ◌≤◌, ◌^◌, ◌&&◌, ◌||◌, Bool, true, false, not, cond, eqb, ltb, List, [], ◌∷◌, ◌++◌, length, Result, Ok, Err, refl, sym, ap, subst, ◌∙◌, arith, append_assoc, append-nil}
+use Rattle.std.proofs.lemmas.Bool.{and_parts, and_from}
 use borrow.Author.Tests.{ltb-false, le-ltb}
 use Rattle.std.proofs.Math.Dec.{eqb-suc-zero}
 use Rattle.std.proofs.lemmas.List.Sums.{take_while-cons}
@@ -13,7 +14,7 @@ use Rattle.ppm_read.specs.Number.{is_white, is_line_end, begins_comment, is_digi
 use Rattle.ppm_read.specs.Header.{part_at}
 use Rattle.ppm_read.specs.Spelling.{GapPart, White, Comment, gap_bytes, is_gap_part, IsGap}
 use Rattle.ppm_read.specs.Breaking.{goes_on, AreDigits, IsOpenEnd, IsOpenGap, PartBreaks, ends_in_gap, ends_in_number, no_gap, no_number, too_large}
-use Rattle.ppm_read.proofs.Gaps.{begins_gap, and_both, both_true, gap_behind, gap_first, digit_first, front_is, front_passes, behind_stops, gap_white, gap_comment, gap_none, comment_stops, comment_goes, hash, fronts_of, some_parts, not_zero, positive, not_true, comment_behind}
+use Rattle.ppm_read.proofs.Gaps.{begins_gap, gap_behind, gap_first, digit_first, front_is, front_passes, behind_stops, gap_white, gap_comment, gap_none, comment_stops, comment_goes, hash, fronts_of, some_parts, not_zero, positive, not_true, comment_behind}
 
 -- behind a gap no gap begins
 abbrev NoGap : List ℕ → Type 0
@@ -46,7 +47,7 @@ add_comment rest opened = by opened.comment where
   by (inr (bytes, end, back, fit, stop, more, spelled)) = record {
     parts = Comment bytes end ∷ more.parts;
     end = more.end;
-    fit = both_true _ _ (both_true _ _ fit stop) more.fit;
+    fit = and_from _ _ (and_from _ _ fit stop) more.fit;
     opened = more.opened;
     spelled = ap (λ l. 35 ∷ l) (spelled ∙ ap (λ l. bytes ++ end ∷ l) more.spelled ∙ sym (append_assoc (bytes ++ end ∷ []) (flat_map gap_bytes more.parts) more.end ∙ append_assoc bytes (end ∷ []) (flat_map gap_bytes more.parts ++ more.end)));
   }
@@ -54,7 +55,7 @@ add_comment rest opened = by opened.comment where
 open_gap : (c : ℕ) (rest : List ℕ) (w h : Bool) → is_white c ≡ w → begins_comment c ≡ h → Opens rest → after_gap (c ∷ rest) ≡ [] → IsOpenGap (c ∷ rest)
 open_gap c rest true h e f opens none =
     let more = opens.0 (sym (gap_white c rest e) ∙ none) in
-    record { parts = White c ∷ more.parts; end = more.end; fit = both_true (is_white c) _ e more.fit; opened = more.opened; spelled = ap (λ l. c ∷ l) more.spelled }
+    record { parts = White c ∷ more.parts; end = more.end; fit = and_from (is_white c) _ e more.fit; opened = more.opened; spelled = ap (λ l. c ∷ l) more.spelled }
 open_gap c rest false true e f opens none = subst (λ v. IsOpenGap (v ∷ rest)) (sym (hash c f)) (add_comment rest (opens.1 (sym (gap_comment c rest e f) ∙ none)))
 open_gap c rest false false e f opens none = let same : c ∷ rest ≡ [] = sym (gap_none c rest e f) ∙ none in cc
 
@@ -62,8 +63,8 @@ open_comment : (c : ℕ) (rest : List ℕ) (s : Bool) → is_line_end c ≡ s �
 open_comment c rest true e opens none = record { comment = inr ([], c, rest, refl, e, opens.0 (sym (comment_stops c rest e) ∙ none), refl) }
 open_comment c rest false e opens none = add (opens.1 (sym (comment_goes c rest e) ∙ none)).comment where
   add : (list_all (λ c. not (is_line_end c)) rest ≡ true) ⊎ ((bytes : List ℕ) × (end : ℕ) × (back : List ℕ) × (list_all (λ c. not (is_line_end c)) bytes ≡ true) × (is_line_end end ≡ true) × IsOpenGap back × (rest ≡ bytes ++ end ∷ back)) → OpenComment (c ∷ rest)
-  add (inl fit) = record { comment = inl (both_true (not (is_line_end c)) _ (ap not e) fit) }
-  add (inr (bytes, end, back, fit, stop, more, spelled)) = record { comment = inr (c ∷ bytes, end, back, both_true (not (is_line_end c)) _ (ap not e) fit, stop, more, ap (λ l. c ∷ l) spelled) }
+  add (inl fit) = record { comment = inl (and_from (not (is_line_end c)) _ (ap not e) fit) }
+  add (inr (bytes, end, back, fit, stop, more, spelled)) = record { comment = inr (c ∷ bytes, end, back, and_from (not (is_line_end c)) _ (ap not e) fit, stop, more, ap (λ l. c ∷ l) spelled) }
 
 opens_of : (text : List ℕ) → Opens text
 opens_of [] = (λ e. record { parts = []; end = []; fit = refl; opened = inl refl; spelled = refl }, λ e. record { comment = inl refl })
@@ -72,7 +73,7 @@ opens_of (c ∷ rest) = (open_gap c rest (is_white c) (begins_comment c) refl re
 -- and the other way round
 comment_open : (bytes : List ℕ) → list_all (λ c. not (is_line_end c)) bytes ≡ true → after_comment bytes ≡ []
 comment_open [] e = refl
-comment_open (c ∷ bytes) e = let both = and_both (not (is_line_end c)) _ e in comment_goes c bytes (not_true (is_line_end c) both.0) ∙ comment_open bytes both.1
+comment_open (c ∷ bytes) e = let both = and_parts (not (is_line_end c)) _ e in comment_goes c bytes (not_true (is_line_end c) both.0) ∙ comment_open bytes both.1
 
 end_behind : (end : List ℕ) → IsOpenEnd end → after_gap end ≡ []
 end_behind end (inl e) = ap after_gap e
@@ -80,10 +81,10 @@ end_behind end (inr (bytes, e, fit)) = ap after_gap e ∙ comment_open bytes fit
 
 parts_behind : (parts : List GapPart) (end : List ℕ) → list_all is_gap_part parts ≡ true → after_gap (flat_map gap_bytes parts ++ end) ≡ after_gap end
 parts_behind [] end e = refl
-parts_behind (White c ∷ parts) end e = let both = and_both (is_white c) _ e in gap_white c (flat_map gap_bytes parts ++ end) both.0 ∙ parts_behind parts end both.1
+parts_behind (White c ∷ parts) end e = let both = and_parts (is_white c) _ e in gap_white c (flat_map gap_bytes parts ++ end) both.0 ∙ parts_behind parts end both.1
 parts_behind (Comment bytes stop ∷ parts) end e =
-    let both = and_both _ (list_all is_gap_part parts) e in
-    let inner = and_both (list_all (λ c. not (is_line_end c)) bytes) (is_line_end stop) both.0 in
+    let both = and_parts _ (list_all is_gap_part parts) e in
+    let inner = and_parts (list_all (λ c. not (is_line_end c)) bytes) (is_line_end stop) both.0 in
     ap after_comment (append_assoc (bytes ++ stop ∷ []) (flat_map gap_bytes parts) end ∙ append_assoc bytes (stop ∷ []) (flat_map gap_bytes parts ++ end))
     ∙ comment_behind bytes stop (flat_map gap_bytes parts ++ end) inner.0 inner.1
     ∙ parts_behind parts end both.1
@@ -163,9 +164,9 @@ pub number_err : (may_end : Bool) (text : List ℕ) (f : PpmFault) → number_at
 number_err may_end text f read = digits_by may_end text f (eqb (length (take_while is_digit text)) 0) refl read
 
 pub cut_end : (may_end : Bool) (rest : List ℕ) → is_cut may_end rest ≡ true → (rest ≡ []) × (may_end ≡ false)
-cut_end true rest e = let both = and_both (eqb (length rest) 0) false e in cc
+cut_end true rest e = let both = and_parts (eqb (length rest) 0) false e in cc
 cut_end false [] e = (refl, refl)
-cut_end false (c ∷ rest) e = let wrong = eqb-suc-zero (length rest) in let both = and_both (eqb (suc (length rest)) 0) true e in cc
+cut_end false (c ∷ rest) e = let wrong = eqb-suc-zero (length rest) in let both = and_parts (eqb (suc (length rest)) 0) true e in cc
 
 or_false : (a b : Bool) → (a || b) ≡ false → (a ≡ false) × (b ≡ false)
 or_false true b e = cc

@@ -1,5 +1,6 @@
 -- Rasters, as they are spelled and as they are read.
 use Rattle.std.proofs.Common.{◌≡◌, ℕ, zero, suc, ◌+◌, ◌-◌, ◌*◌, ◌<◌, ◌≤◌, ◌&&◌, ◌||◌, Bool, true, false, not, cond, eqb, ltb, List, [], ◌∷◌, ◌++◌, length, take, drop, map, Result, Ok, Err, Some, None, refl, sym, ap, subst, ◌∙◌, arith, append_assoc, append-nil, mul-suc}
+use Rattle.std.proofs.lemmas.Bool.{and_parts}
 use borrow.Author.Tests.{ltb-false, le-ltb}
 use Rattle.std.proofs.Math.Dec.{eqb-suc-zero}
 use Rattle.std.proofs.lemmas.Bool.Decides.{nat_tests}
@@ -18,7 +19,7 @@ use Rattle.picture_rows.specs.RowsLeft.{RowsLeft, with_row}
 use Rattle.ppm_read.specs.Raster.{byte_at, word_at, plain_at, spelled_at, at_most, sample_at, samples_at, channel_count, rgba, pixels_at, row_at, row_then, rows_of}
 use Rattle.ppm_read.specs.Spelling.{IsRawSample, IsSample, AreSamples}
 use Rattle.ppm_read.proofs.Chains.{bind_ok, cond_ok, inside}
-use Rattle.ppm_read.proofs.Gaps.{begins_gap, cond_err, and_both, digit_first, front_passes, front_is, number_front, number_spelled}
+use Rattle.ppm_read.proofs.Gaps.{begins_gap, cond_err, digit_first, front_passes, front_is, number_front, number_spelled}
 use Rattle.ppm_read.proofs.Pixels.{rgba-append, rgba-none}
 
 -- what may stand behind a sample
@@ -88,7 +89,7 @@ no_digit_white digits rest some fit = no_white (digits ++ rest) (digit_first dig
 
 pub white_first : (white rest : List ℕ) → 0 < length white → list_all is_white white ≡ true → begins_with is_white (white ++ rest) ≡ true
 white_first [] rest lt e = absurd (omega arith)
-white_first (c ∷ white) rest lt e = (and_both (is_white c) (list_all is_white white) e).0
+white_first (c ∷ white) rest lt e = (and_parts (is_white c) (list_all is_white white) e).0
 
 raw_spelled : (b : Bool) (v : ℕ) (one rest : List ℕ) → IsRawSample b v one → cond b (byte_at (one ++ rest)) (word_at (one ++ rest)) ≡ Ok (v, rest)
 raw_spelled true v one rest is = ap (λ l. byte_at (l ++ rest)) is

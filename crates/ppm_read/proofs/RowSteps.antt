@@ -1,5 +1,6 @@
 -- The rows of a picture, one after another.
 use Rattle.std.proofs.Common.{◌≡◌, inl, inr, ℕ, zero, suc, ◌-◌, ◌<◌, ◌≤◌, ◌&&◌, Bool, true, false, eqb, leb, ltb, List, length, Result, Ok, Err, refl, ap, ◌∙◌, arith}
+use Rattle.std.proofs.lemmas.Bool.{and_parts}
 use borrow.Author.Tests.{ltb-true}
 use Rattle.std.proofs.lemmas.Bool.Decides.{nat_tests}
 use Rattle.ppm_read.specs.declared.fault.PpmFault.{PpmFault}
@@ -39,10 +40,6 @@ rows_more head (suc h) text last lt e =
     let one : h ≡ suc h - 1 = omega arith in
     ap (λ b. row_then head.width (row_at head b text) (λ rest. rows_of head h rest)) flag ∙ ap (λ n. row_then head.width (row_at head last text) (λ rest. rows_of head n rest)) one
 
-and_both : (a b : Bool) → (a && b) ≡ true → (a ≡ true) × (b ≡ true)
-and_both true b e = (refl, e)
-and_both false b e = cc
-
 le_by : (a b n : ℕ) → a - b ≡ n → n ≤ a
 le_by a b n e = omega arith
 
@@ -67,6 +64,6 @@ head_facts text head e =
     let whole = inside _ head raster.2 in
     let start : length text - length raster.0 ≡ head.raster_start = ap (λ (h : Head). h.raster_start) whole in
     let maximum : most.0.0 ≡ head.maximum = ap (λ (h : Head). h.maximum) whole in
-    let low : 0 < number.0.0 = ltb-true 0 number.0.0 (and_both _ _ range.0).0 in
+    let low : 0 < number.0.0 = ltb-true 0 number.0.0 (and_parts _ _ range.0).0 in
     let most_is : number.0.0 ≡ most.0.0 = ap (λ (x : ℕ × List ℕ). x.0) same in
     record { start = le_by (length text) (length raster.0) head.raster_start start; maximum = at_least number.0.0 most.0.0 head.maximum low most_is maximum }

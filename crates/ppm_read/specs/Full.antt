@@ -1,5 +1,6 @@
--- The full picture of a text, or the first rule that it breaks. The picture is that of Netpbm's ppm(5) and pgm(5); that a
--- broken rule has a name, and which of several comes first, is this project's own: the first in the order of the text.
+-- The full picture of a text, or the first rule that it breaks. The picture is that of Netpbm's ppm(5)
+-- and pgm(5); that a broken rule has a name, and which of several comes first, is this project's own: the
+-- first in the order of the text.
 use Rattle.std.specs.Prelude.{ℕ, List, Result, drop}
 use Rattle.ppm_read.specs.declared.fault.PpmFault.{PpmFault}
 use Rattle.ppm_read.specs.declared.header.Head.{Head}

@@ -1,6 +1,7 @@
--- The header, part by part, as Netpbm's ppm(5) and pgm(5) have it: the magic number, the width, the height and the maximum, with
--- white space or comments between them, and where the samples are raw one white byte. That no comment stands directly before
--- the samples, and which fault comes first, is this project's own.
+-- The header, part by part, as Netpbm's ppm(5) and pgm(5) have it: the magic number, the width, the
+-- height and the maximum, with white space or comments between them, and where the samples are raw one
+-- white byte. That no comment stands directly before the samples, and which fault comes first, is this
+-- project's own.
 use Rattle.std.specs.Prelude.{ℕ, ◌-◌, ◌&&◌, ◌==◌, nat_le, nat_lt, List, [], ◌∷◌, length, drop, if◌then◌else◌, Ok, Err, Result, false}
 use Rattle.ppm_read.specs.declared.fault.PpmFault.{PpmFault}
 use Rattle.ppm_read.specs.declared.fault.PpmFault.TheVariants.{BadMagic, BadSize, BadMaximum}
@@ -21,7 +22,8 @@ kind_of digit = if digit == 50 then Ok (Grey, Plain) else (if digit == 51 then O
 abbrev pub magic_at : List ℕ → Result (Channels × Format × List ℕ) PpmFault
 magic_at [] = Err BadMagic
 magic_at (p ∷ []) = Err BadMagic
-magic_at (p ∷ digit ∷ rest) = if p == 80 then kind_of digit >>= (λ kind. Ok (kind.0, kind.1, rest)) else Err BadMagic
+magic_at (p ∷ digit ∷ rest) = if p == 80 then kind_of digit >>= (λ kind. Ok (kind.0, kind.1, rest))
+    else Err BadMagic
 
 -- a number of the header, which more text follows
 abbrev pub part_at : List ℕ → Result (ℕ × List ℕ) PpmFault
@@ -56,4 +58,11 @@ head_of text = do
   size ← size_at kind.2
   maximum ← maximum_at size.2
   raster ← raster_at kind.1 maximum.1
-  Ok record { width = size.0; height = size.1; channels = kind.0; format = kind.1; maximum = maximum.0; raster_start = length text - length raster }
+  Ok record {
+    width = size.0;
+    height = size.1;
+    channels = kind.0;
+    format = kind.1;
+    maximum = maximum.0;
+    raster_start = length text - length raster;
+  }

@@ -1,4 +1,4 @@
--- The raw samples of whole rows, as the code reads them: this project's own way to say the same of a row's bytes at once.
+-- The raw samples of whole rows, as the code reads them: the same, said of a row's bytes at once.
 use Rattle.std.specs.Prelude.{ℕ, ◌+◌, ◌*◌, nat_lt, List, [], ◌∷◌, if◌then◌else◌}
 
 -- samples of two bytes, the high one first; a last byte alone is none

@@ -1,5 +1,5 @@
--- How a picture is spelled, by the grammar of Netpbm's ppm(5) and pgm(5). What of it is this project's own, the files of the
--- header's and the raster's definitions say.
+-- How a picture is spelled, by the grammar of Netpbm's ppm(5) and pgm(5). What of it is this project's
+-- own, the files of the header's and the raster's definitions say.
 use Rattle.std.specs.Prelude.{◌≡◌, ℕ, ◌+◌, ◌*◌, ◌<◌, ◌≤◌, Bool, true, false, not, ◌&&◌, nat_lt, List, [], ◌∷◌, ◌++◌, length, map, Ok, ⊤}
 use Rattle.std.specs.List.{list_all, flat_map}
 use Rattle.std.specs.Str.Parse.{digits_value}
@@ -94,7 +94,9 @@ IsSample Raw maximum v bytes = IsRawSample (nat_lt maximum 256) v bytes
 -- samples one after the other, none above the maximum
 abbrev pub AreSamples : Format → ℕ → List ℕ → List ℕ → Type 0
 AreSamples format maximum [] bytes = bytes ≡ []
-AreSamples format maximum (v ∷ vs) bytes = (one : List ℕ) × (others : List ℕ) × IsSample format maximum v one × (v ≤ maximum) × AreSamples format maximum vs others × (bytes ≡ one ++ others)
+AreSamples format maximum (v ∷ vs) bytes = (one : List ℕ) × (others : List ℕ)
+    × IsSample format maximum v one × (v ≤ maximum) × AreSamples format maximum vs others
+    × (bytes ≡ one ++ others)
 
 -- the last number of a plain raster goes on while digits come
 abbrev pub MayFollow : Format → List ℕ → Type 0

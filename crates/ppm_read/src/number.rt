@@ -44,7 +44,7 @@ pub(crate) fn after_white(text: &[u8]) -> &[u8]
 
 // How many bytes the white space and the comments have that the text begins with.
 fn gap_length(text: &[u8]) -> usize
-    ensures behind { drop result text.now ≡ after_gap text.now }
+    ensures after { drop result text.now ≡ after_gap text.now }
     ensures bound { result ≤ length text.now }
 {
     let mut in_comment = false;

@@ -16,7 +16,7 @@ pub(crate) fn channel_count(channels: Channels) -> usize
     }
 }
 
-// A pixel that hides what is behind it.
+// A pixel of no transparency.
 pub(crate) fn opaque(red: u8, green: u8, blue: u8) -> Rgba
     ensures { rgba_bytes result ≡ red ∷ green ∷ blue ∷ 255 ∷ [] }
 {

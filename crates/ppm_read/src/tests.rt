@@ -5,22 +5,28 @@ ghost use Rattle.ppm_read.specs.Full.{full_picture};
 use super::*;
 use PpmFault::{BadMagic, BadMaximum, BadNumber, BadSize, SampleAbove, Truncated};
 
-// The definition itself on worked texts, computed where the tests are proved. The first is a red pixel and a blue one.
+// The definition itself on worked texts, computed where the tests are proved. The first is a red pixel
+// and a blue one.
 fn worked_texts()
-    ensures raw_colour { full_picture (codes "P6" ++ 10 ∷ codes "2 1" ++ 10 ∷ codes "255" ++ 10 ∷ 255 ∷ 0 ∷ 0 ∷ 0 ∷ 0 ∷ 255 ∷ [])
+    ensures raw_colour { full_picture (codes "P6" ++ 10 ∷ codes "2 1" ++ 10 ∷ codes "255"
+        ++ 10 ∷ 255 ∷ 0 ∷ 0 ∷ 0 ∷ 0 ∷ 255 ∷ [])
         ≡ Ok record { width = 2; height = 1; pixels = 255 ∷ 0 ∷ 0 ∷ 255 ∷ 0 ∷ 0 ∷ 255 ∷ 255 ∷ [] } }
     ensures raw_grey { full_picture (codes "P5" ++ 10 ∷ codes "2 1" ++ 10 ∷ codes "1" ++ 10 ∷ 0 ∷ 1 ∷ [])
         ≡ Ok record { width = 2; height = 1; pixels = 0 ∷ 0 ∷ 0 ∷ 255 ∷ 255 ∷ 255 ∷ 255 ∷ 255 ∷ [] } }
-    ensures plain_colour { full_picture (codes "P3" ++ 10 ∷ codes "# c" ++ 10 ∷ codes "1 1" ++ 10 ∷ codes "15" ++ 10 ∷ codes "0 7 15" ++ 10 ∷ [])
+    ensures plain_colour { full_picture (codes "P3" ++ 10 ∷ codes "# c" ++ 10 ∷ codes "1 1"
+        ++ 10 ∷ codes "15" ++ 10 ∷ codes "0 7 15" ++ 10 ∷ [])
         ≡ Ok record { width = 1; height = 1; pixels = 0 ∷ 119 ∷ 255 ∷ 255 ∷ [] } }
-    ensures two_bytes { full_picture (codes "P5" ++ 10 ∷ codes "1 1" ++ 10 ∷ codes "65535" ++ 10 ∷ 128 ∷ 0 ∷ [])
+    ensures two_bytes { full_picture (codes "P5" ++ 10 ∷ codes "1 1" ++ 10 ∷ codes "65535"
+        ++ 10 ∷ 128 ∷ 0 ∷ [])
         ≡ Ok record { width = 1; height = 1; pixels = 128 ∷ 128 ∷ 128 ∷ 255 ∷ [] } }
-    ensures bytes_after { full_picture (codes "P6 1 1 255 " ++ 1 ∷ 2 ∷ 3 ∷ 4 ∷ []) ≡ Ok record { width = 1; height = 1; pixels = 1 ∷ 2 ∷ 3 ∷ 255 ∷ [] } }
+    ensures bytes_after { full_picture (codes "P6 1 1 255 " ++ 1 ∷ 2 ∷ 3 ∷ 4 ∷ [])
+        ≡ Ok record { width = 1; height = 1; pixels = 1 ∷ 2 ∷ 3 ∷ 255 ∷ [] } }
     ensures short { full_picture (codes "P6 1 2 255 " ++ 1 ∷ 2 ∷ 3 ∷ 4 ∷ 5 ∷ []) ≡ Err PpmFault.Truncated }
     ensures open_comment { full_picture (codes "P6#x") ≡ Err PpmFault.Truncated }
     ensures greatest_number { full_picture (codes "P6 4294967295 1 0 ") ≡ Err PpmFault.BadMaximum }
     ensures great_number { full_picture (codes "P6 4294967296 1 255 ") ≡ Err PpmFault.BadNumber }
-    ensures comment_before_samples { full_picture (codes "P6 1 1 255#c" ++ 10 ∷ 10 ∷ 1 ∷ 2 ∷ 3 ∷ []) ≡ Err PpmFault.BadNumber }
+    ensures comment_before_samples { full_picture (codes "P6 1 1 255#c" ++ 10 ∷ 10 ∷ 1 ∷ 2 ∷ 3 ∷ [])
+        ≡ Err PpmFault.BadNumber }
     ensures no_width { full_picture (codes "P6 0 1 ") ≡ Err PpmFault.BadSize }
     ensures greatest_maximum { full_picture (codes "P5 1 1 65535 ") ≡ Err PpmFault.Truncated }
     ensures great_maximum { full_picture (codes "P5 1 1 65536 ") ≡ Err PpmFault.BadMaximum }

@@ -1,4 +1,4 @@
--- One pixel of plain samples, as the code reads it: this project's own way to say the same of a pixel alone.
+-- One pixel of plain samples, as the code reads it: the same, said of a pixel alone.
 use Rattle.std.specs.Prelude.{ℕ, Bool, false, List, [], ◌∷◌, Ok, Result}
 use Rattle.ppm_read.specs.declared.fault.PpmFault.{PpmFault}
 use Rattle.ppm_read.specs.declared.header.Format.TheVariants.{Plain}

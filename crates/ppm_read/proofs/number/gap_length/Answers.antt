@@ -17,6 +17,6 @@ stops_at text i inside w b lt outside e nowhite f none so_far =
     here ∙ sym (stops (get_or text i 0) rest w b (sym e) (sym f) nowhite none) ∙ ap after_gap (sym here)
     ∙ sym (ap (λ v. cond v (after_comment (drop i text)) (after_gap (drop i text))) outside) ∙ so_far
 
-pub returns-then-not-is_white-clause-behind : goal.returns-then-not-is_white-clause-behind
-returns-then-not-is_white-clause-behind c =
+pub returns-then-not-is_white-clause-after : goal.returns-then-not-is_white-clause-after
+returns-then-not-is_white-clause-after c =
     stops_at c.args.text.now c.loop-at.at c.loop-at.in_comment _ _ c.loop-at-test.true c.if-in_comment.false c.is_white.ensures c.if-not-is_white.true c.begins_comment.ensures c.if-begins_comment.false c.loop-at.invariant
