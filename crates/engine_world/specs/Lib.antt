@@ -1,0 +1,9 @@
+pub mod World
+pub mod Places
+pub mod Moves
+pub mod Balance
+pub mod Steps
+pub mod Knowledge
+pub mod Permits
+pub mod Sound
+pub mod EngineMachine
