@@ -40,9 +40,11 @@ no_knowledge = record { begun = 0; loads = empty; job = None }
 
 -- ---- what an entry of its own adds
 
+abbrev pub own_load : LoadSpec → Bool → OwnLoad
+own_load spec ready = record { key = spec.key; cached = spec.cached; ready = ready }
+
 abbrev pub with_load : LoadSpec → Bool → Knowledge → Knowledge
-with_load spec ready known =
-    record known { begun = known.begun + 1; loads = insert known.loads known.begun (record { key = spec.key; cached = spec.cached; ready = ready }) }
+with_load spec ready known = record known { begun = known.begun + 1; loads = insert known.loads known.begun (own_load spec ready) }
 
 abbrev pub after_load : LoadSpec → NotedReply → Knowledge → Knowledge
 after_load spec replies.Full known = known

@@ -7,3 +7,4 @@ pub mod Knowledge
 pub mod Permits
 pub mod Sound
 pub mod EngineMachine
+pub mod Laws
