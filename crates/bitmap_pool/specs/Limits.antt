@@ -27,4 +27,5 @@ PicksKeep A = (maximum wanted : ℕ) (config : Config) (groups : List (Group A))
 
 -- and where a pool is cut to a size, of a pool of that maximum.
 abbrev pub TrimsKeep : Type 0 → Type 0
-TrimsKeep A = (maximum room : ℕ) (groups : List (Group A)) → IsPool maximum groups → IsPool room (pool_trim room groups)
+TrimsKeep A = (maximum room : ℕ) (groups : List (Group A))
+    → IsPool maximum groups → IsPool room (pool_trim room groups)

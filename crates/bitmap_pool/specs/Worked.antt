@@ -10,7 +10,8 @@ argb size items = record { size = size; config = Argb8888; items = items }
 
 -- A look-up for so many bytes gives this bitmap or none, and leaves these groups.
 abbrev pub Gives : List (Group ℕ) → ℕ → Option ℕ → List (Group ℕ) → Type 0
-Gives groups wanted found left = ((pool_pick Argb8888 wanted groups).found ≡ found) × ((pool_pick Argb8888 wanted groups).groups ≡ left)
+Gives groups wanted found left =
+    let picked = pool_pick Argb8888 wanted groups in (picked.found ≡ found) × (picked.groups ≡ left)
 
 -- A put of a bitmap of this size leaves these groups.
 abbrev pub Puts : List (Group ℕ) → (maximum size number : ℕ) → List (Group ℕ) → Type 0

@@ -86,7 +86,8 @@ fn last_bitmap(bitmaps: &[Bitmap], size: u64, config: Config) -> Option<usize>
 
 // Takes the bitmap of a group out that was added last.
 fn take_last(bitmaps: &mut Vec<Bitmap>, size: u64, config: Config) -> Option<Bitmap>
-    ensures value { let items = filter (is_of size config) bitmaps.old.items in result ≡ slice_get items (length items - 1) }
+    ensures value { let items = filter (is_of size config) bitmaps.old.items in
+        result ≡ slice_get items (length items - 1) }
     ensures rest { bitmaps.new.items ≡ without_last (is_of size config) bitmaps.old.items }
     ensures none { IfNone result (list_any (is_of size config) bitmaps.old.items ≡ false) }
     ensures some { IfSome result (λ _. list_any (is_of size config) bitmaps.old.items ≡ true) }
@@ -228,7 +229,8 @@ impl Groups {
     // Adds an empty group at the tail, where there is none of its size and config.
     fn add_group(&mut self, size: u64, config: Config)
         requires { has_group size config self.old ≡ false → length self.old < 2048 }
-        ensures groups { (bitmap : BitmapValue) → add_last size config bitmap self.new ≡ add_last size config bitmap self.old }
+        ensures groups { (bitmap : BitmapValue) →
+            add_last size config bitmap self.new ≡ add_last size config bitmap self.old }
         ensures there { has_group size config self.new ≡ true }
         ensures count { pool_count self.new ≡ pool_count self.old }
     {

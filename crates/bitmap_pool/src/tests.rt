@@ -87,8 +87,8 @@ fn keeps_as_many_bitmaps_as_its_limit(rt: HostRuntime) -> Result<(), Fail> {
     let mut pool = Pool::new(rt.alloc(), 1_000_000)?;
     for number in 1..1_025 {
         pool.put(row(rt.alloc(), number, 1, Config::Alpha8)?);
+        assert_eq!(rt; pool.size(), number);
     }
-    assert_eq!(rt; pool.size(), 1_024);
     pool.put(row(rt.alloc(), 1_025, 1, Config::Alpha8)?);
     assert_eq!(rt; pool.size(), 1_024);
     assert_eq!(rt; number_of(pool.get_dirty(1, 1, Config::Alpha8)), 1_024);
