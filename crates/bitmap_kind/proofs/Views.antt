@@ -6,7 +6,8 @@ use Rattle.bitmap_kind.specs.declared.bitmaps.Bitmap.TheInside.{Inside}
 use Rattle.bitmap_kind.specs.Stored.{overwritten}
 use Rattle.bitmap_kind.specs.Picture.{BitmapValue, stored_size, with_piece}
 use Rattle.bitmap_kind.specs.BitmapView.{value_of, IsWhole}
-use Rattle.bitmap_kind.proofs.Places.{length-overwritten, take-overwritten, drop-overwritten}
+use Rattle.bitmap_kind.specs.Places.{length-overwritten}
+use Rattle.bitmap_kind.proofs.Places.{take-overwritten, drop-overwritten}
 
 -- a piece is written over the stored bytes
 pub view-written : (s : Inside) (now piece : List ℕ) (at : ℕ) → IsWhole s → now ≡ overwritten s.memory.items at piece → at + length piece ≤ stored_size s.width s.height s.config

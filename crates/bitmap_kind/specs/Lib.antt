@@ -3,3 +3,4 @@ pub mod StoredLaws
 pub mod Picture
 pub mod BitmapView
 pub mod Pieces
+pub mod Places

@@ -13,7 +13,8 @@ all_pieces xs n a (suc count) =
     let more : suc count * n ≡ n + count * n = omega (arith, suc-mul count n) in
     let next : a * n + n ≡ (a + 1) * n = omega arith in
     let after = drop-drop n (a * n) xs ∙ ap (λ k. drop k xs) next in
-    ap (λ l. take n (drop (a * n) xs) ++ l) (all_pieces xs n (a + 1) count ∙ ap (take (count * n)) (sym after))
+    ap (λ l. take n (drop (a * n) xs) ++ l)
+    (all_pieces xs n (a + 1) count ∙ ap (take (count * n)) (sym after))
     ∙ sym (ap (λ k. take k (drop (a * n) xs)) more ∙ take-add n (count * n) (drop (a * n) xs))
 
 -- two lists whose pieces are equal

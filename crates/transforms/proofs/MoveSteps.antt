@@ -4,7 +4,7 @@ use Rattle.std.proofs.lemmas.Nat.{mul-le}
 use Rattle.std.proofs.lemmas.Bool.{cases_lt, cases_order}
 use Rattle.bitmap_kind.specs.Stored.{pixel_bytes, overwritten}
 use Rattle.bitmap_kind.specs.Picture.{Picture, BitmapValue, stored_size, pixel_place, pixel_at, run_at, with_piece}
-use Rattle.bitmap_kind.proofs.Places.{run_inside, length-piece, length-overwritten}
+use Rattle.bitmap_kind.specs.Places.{run_inside, length-piece, length-overwritten}
 use Rattle.transforms.specs.Boxes.{IsWhole}
 use Rattle.transforms.specs.Steps.{MovesColumns}
 use Rattle.transforms.proofs.Pieces.{piece-piece}

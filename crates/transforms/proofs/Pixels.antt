@@ -3,7 +3,7 @@ use Rattle.std.proofs.Common.{◌≡◌, ℕ, ◌+◌, ◌*◌, ◌<◌, ◌≤�
 use Rattle.std.proofs.lemmas.Nat.{mul-le}
 use Rattle.bitmap_kind.specs.Stored.{pixel_bytes, overwritten}
 use Rattle.bitmap_kind.specs.Picture.{Picture, pixel_place, pixel_at}
-use Rattle.bitmap_kind.proofs.Places.{run_inside}
+use Rattle.bitmap_kind.specs.Places.{run_inside}
 use Rattle.transforms.specs.Boxes.{IsWhole}
 use Rattle.transforms.proofs.Pieces.{inside-overwritten, before-overwritten, behind-overwritten}
 

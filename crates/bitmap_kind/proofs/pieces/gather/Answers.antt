@@ -1,6 +1,6 @@
 use Rattle.std.proofs.Common.{◌≡◌, ◌+◌, ◌-◌, ◌*◌, ◌≤◌, length, take, drop, get_or, ap, ◌∙◌, arith}
 use Rattle.std.proofs.lemmas.List.Elements.{All-get_or}
-use Rattle.bitmap_kind.proofs.Places.{length-piece}
+use Rattle.bitmap_kind.specs.Places.{length-piece}
 use Rattle.bitmap_kind.proofs.Gathering.{gather_more}
 use Rattle.bitmap_kind.proofs.pieces.gather.Goals as goal
 

@@ -2,7 +2,7 @@ use Rattle.std.proofs.Common.{◌≡◌, ℕ, ◌<◌, length, get_or, ap, ◌�
 use Rattle.bitmap_kind.specs.Stored.{pixel_bytes}
 use Rattle.bitmap_kind.specs.Picture.{pixel_at, pixels_at}
 use Rattle.transforms.specs.Axis.{axis_place}
-use Rattle.bitmap_kind.proofs.Places.{length-pieces}
+use Rattle.bitmap_kind.specs.Places.{length-pieces}
 use Rattle.transforms.proofs.Pieces.{piece-flat_map}
 use Rattle.transforms.proofs.MoveSteps.{row_copied, length-pixel}
 use Rattle.transforms.proofs.moves.move_places.Goals as goal

@@ -2,7 +2,7 @@ use Rattle.std.proofs.Common.{◌≡◌, ◌+◌, ◌*◌, length, take, drop, g
 use Rattle.std.specs.List.{flat_map}
 use Rattle.bitmap_kind.specs.Stored.{pixel_bytes, overwritten}
 use Rattle.bitmap_kind.specs.Picture.{BitmapValue, pixel_place, pixel_at, pixels_at, with_piece}
-use Rattle.bitmap_kind.proofs.Places.{run_inside, length-piece, length-pieces}
+use Rattle.bitmap_kind.specs.Places.{run_inside, length-piece, length-pieces}
 use Rattle.bitmap_kind.proofs.Views.{view-written}
 use Rattle.bitmap_kind.proofs.bitmaps.Bitmap.copy_columns.Goals as goal
 

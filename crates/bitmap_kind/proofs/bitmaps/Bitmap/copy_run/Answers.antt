@@ -1,7 +1,7 @@
 use Rattle.std.proofs.Common.{◌≡◌, ◌+◌, ◌*◌, length, sym, ap, ◌∙◌, arith}
 use Rattle.bitmap_kind.specs.Stored.{pixel_bytes, overwritten}
 use Rattle.bitmap_kind.specs.Picture.{BitmapValue, pixel_place, run_at, with_piece}
-use Rattle.bitmap_kind.proofs.Places.{run_inside}
+use Rattle.bitmap_kind.specs.Places.{run_inside}
 use Rattle.bitmap_kind.proofs.Views.{view-written}
 use Rattle.bitmap_kind.proofs.bitmaps.Bitmap.copy_run.Goals as goal
 

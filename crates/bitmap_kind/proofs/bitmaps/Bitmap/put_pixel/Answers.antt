@@ -2,7 +2,7 @@ use Rattle.std.proofs.Common.{◌≡◌, ◌+◌, ◌*◌, length, ap, ◌∙◌
 use Rattle.bitmap_kind.specs.Stored.{pixel_bytes, stored, overwritten}
 use Rattle.bitmap_kind.specs.Picture.{BitmapValue, pixel_place}
 use Rattle.bitmap_kind.proofs.Packing.{length-stored}
-use Rattle.bitmap_kind.proofs.Places.{run_inside}
+use Rattle.bitmap_kind.specs.Places.{run_inside}
 use Rattle.bitmap_kind.proofs.Views.{view-written}
 use Rattle.bitmap_kind.proofs.bitmaps.Bitmap.put_pixel.Goals as goal
 

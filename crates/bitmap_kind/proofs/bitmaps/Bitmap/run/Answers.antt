@@ -1,7 +1,7 @@
 use Rattle.std.proofs.Common.{◌≡◌, ◌+◌, ◌-◌, ◌*◌, ◌≤◌, length, take, drop, sym, ap, ◌∙◌, arith}
 use Rattle.bitmap_kind.specs.Stored.{pixel_bytes}
 use Rattle.bitmap_kind.specs.Picture.{pixel_place, run_at}
-use Rattle.bitmap_kind.proofs.Places.{run_inside, length-piece}
+use Rattle.bitmap_kind.specs.Places.{run_inside, length-piece}
 use Rattle.bitmap_kind.proofs.bitmaps.Bitmap.run.Goals as goal
 
 pub slice_bounds-result-end : goal.slice_bounds-result-end
