@@ -6,7 +6,6 @@ use Rattle.bitmap_kind.specs.declared.bitmaps.Rule.{Rule}
 use Rattle.sampling.specs.Sample.{sample_of}
 use Rattle.sampling.specs.SampleLaws.{EachSampleIsAPower}
 use Rattle.picture_rows.specs.Reading.{◌>>=◌}
-use Rattle.cache_key.specs.Key.{Key}
 use Rattle.image_format.specs.declared.plan.Plan.{Plan}
 use Rattle.image_format.specs.declared.refusal.Refusal.{Refusal}
 use Rattle.image_format.specs.declared.refusal.Refusal.TheVariants.{TooLarge}

@@ -1,4 +1,4 @@
--- What the calls answer and leave, in the words of the pictures. It is this project's own.
+-- What the calls answer and leave, in the words of the pictures.
 use Rattle.std.specs.Prelude.{◌≡◌, ⊤, Ok, Err, Result}
 use Rattle.bitmap_kind.specs.Picture.{Picture, BitmapValue}
 use Rattle.image_format.specs.declared.refusal.Refusal.{Refusal}

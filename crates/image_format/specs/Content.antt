@@ -1,4 +1,4 @@
--- What a content gives a key. It is this project's own.
+-- What a content gives a key.
 use Rattle.std.specs.Prelude.{ℕ, List, Result}
 use Rattle.std.specs.declared.option.Option.{Option}
 use Rattle.std.specs.declared.cmp.Ordering.{Ordering}
@@ -14,7 +14,8 @@ use Rattle.image_format.specs.Pictures.{picture_of}
 abbrev pub picture_at : Option (List ℕ) → Key → Option (Result Picture Refusal)
 picture_at found key = option_map (λ text. picture_of text key) found
 
--- What a content gives a key: nothing, a picture, or a refusal. A content is a finite map from a url and a signature to
--- bytes, whatever their order in it.
-abbrev pub picture_in : {order : List ℕ × List ℕ → List ℕ × List ℕ → Ordering} → FinMap order (List ℕ) → Key → Option (Result Picture Refusal)
+-- What a content gives a key: nothing, a picture, or a refusal. A content is a finite map from a url and
+-- a signature to bytes, whatever their order in it.
+abbrev pub picture_in : {order : List ℕ × List ℕ → List ℕ × List ℕ → Ordering} → FinMap order (List ℕ) → Key
+    → Option (Result Picture Refusal)
 picture_in content key = picture_at (get content (address_of key)) key

@@ -1,6 +1,7 @@
--- The picture that is shown for a text, or why there is none. That a picture is sampled by its size and the wanted one,
--- stored in a config and then transformed, is Glide's (Downsampler and its transformations); which text is of which
--- kind, the limits, and the order of refusals are this project's own.
+-- The picture that is shown for a text, or why there is none. That a picture is sampled by its size and
+-- the wanted one, stored in a config and then transformed, is Glide's (Downsampler and its
+-- transformations); which text is of which kind, the limits, and the order of refusals are this project's
+-- own.
 use Rattle.std.specs.Prelude.{◌≡◌, ℕ, ◌*◌, Bool, ◌||◌, nat_lt, nat_eq, List, if◌then◌else◌, Ok, Err, Some, None, Result, codes}
 use Rattle.std.specs.declared.option.Option.{Option}
 use Rattle.std.specs.List.{starts_with}
@@ -27,7 +28,7 @@ use Rattle.image_format.specs.declared.refusal.Refusal.TheVariants.{Unknown, Ppm
 
 -- ---- the kind, the header and the full picture of a text
 
--- the kind that a text's first two bytes tell, if they tell one
+-- the kind that a text's first two bytes name, if they name one
 abbrev pub kind_of : List ℕ → Option Kind
 kind_of text =
     if starts_with nat_eq text (codes "BM") then Some Bitmap
@@ -38,14 +39,17 @@ kind_of text =
 -- the width and height that the header of a text of this kind says, or the reader's fault
 abbrev pub size_of_kind : Option Kind → List ℕ → Result (ℕ × ℕ) Refusal
 size_of_kind None text = Err Unknown
-size_of_kind (Some Netpbm) text = result_map_both (λ head. (head.width, head.height)) Ppm (ppm_header.head_of text)
-size_of_kind (Some Bitmap) text = result_map_both (λ head. (head.width, head.height)) Bmp (bmp_header.head_of text)
+size_of_kind (Some Netpbm) text =
+    result_map_both (λ head. (head.width, head.height)) Ppm (ppm_header.head_of text)
+size_of_kind (Some Bitmap) text =
+    result_map_both (λ head. (head.width, head.height)) Bmp (bmp_header.head_of text)
 
 -- those of a text
 abbrev pub source_size : List ℕ → Result (ℕ × ℕ) Refusal
 source_size text = size_of_kind (kind_of text) text
 
--- the full picture of a text of this kind: its size, and red, green, blue and alpha of each pixel from the top row
+-- the full picture of a text of this kind: its size, and red, green, blue and alpha of each pixel from
+-- the top row
 abbrev pub full_of_kind : Option Kind → List ℕ → Result FullPicture Refusal
 full_of_kind None text = Err Unknown
 full_of_kind (Some Netpbm) text = result_map_both (λ full. full) Ppm (ppm_full.full_picture text)
@@ -78,7 +82,8 @@ abbrev pub decoded_size : Key → ℕ × ℕ → ℕ × ℕ
 decoded_size key source = sampled_size (sample_under key source) source
 
 abbrev pub shown_size : Key → ℕ × ℕ → ℕ × ℕ
-shown_size key source = target_size (decoded_size key source).0 (decoded_size key source).1 key.transform key.width key.height
+shown_size key source =
+    let size = decoded_size key source in target_size size.0 size.1 key.transform key.width key.height
 
 -- a source of this size is beyond the limits, or what would be shown of it is
 abbrev pub is_too_large : Key → ℕ × ℕ → Bool
@@ -122,7 +127,8 @@ decoded_under config sample read = read >>= (λ full. Ok (decoded_picture config
 unfoldable pub decoded : List ℕ → Plan → Result Picture Refusal
 decoded text plan = decoded_under plan.config plan.sample (full_picture text)
 
--- The picture of a text under a key, or the first refusal: of the kind, of the header, of the sizes, of the raster.
+-- The picture of a text under a key, or the first refusal: of the kind, of the header, of the sizes, of
+-- the raster.
 abbrev pub picture_of : List ℕ → Key → Result Picture Refusal
 picture_of text key = do
   plan ← planned text key

@@ -57,8 +57,8 @@ impl From<AllocError> for DecodeFault {
     }
 }
 
-// Decodes all rows of a picture of this size into a bitmap of the sampled size, one by one with one row buffer. Whatever
-// stood in the bitmap is overwritten.
+// Decodes all rows of a picture of this size into a bitmap of the sampled size, one by one with one row
+// buffer. Whatever stood in the bitmap is overwritten.
 fn decode_rows(
     alloc: Global,
     rows: &mut PictureRows<'_>,
@@ -87,10 +87,12 @@ fn decode_rows(
     Ok(())
 }
 
-/// Decodes a text, by the plan that it has under a key, into a bitmap of the plan's decoded size and its config.
+/// Decodes a text, by the plan that it has under a key, into a bitmap of the plan's decoded size and its
+/// config.
 ///
-/// Where it answers Ok the stored bytes are the sampled picture, whatever they were before. A raster that breaks a rule
-/// is refused, and the stored bytes are then any. Number, allocation, sides and config of the bitmap stay in each case.
+/// Where it answers Ok the stored bytes are the sampled picture, whatever they were before. A raster that
+/// breaks a rule is refused, and the stored bytes are then any. Number, allocation, sides and config of
+/// the bitmap stay in each case.
 #[tactic(auto, unfolding(crate::specs::Pictures::decoded))]
 pub fn decode_into(
     alloc: Global,

@@ -1,5 +1,5 @@
-// From a text to its picture under a key: which kind it is of, how it is decoded, and why it is refused. And the raw
-// form, in which a decoded picture is kept.
+// From a text to its picture under a key: which kind it is of, how it is decoded, and why it is refused.
+// And the raw form, in which a decoded picture is kept.
 #![tactic(auto)]
 
 mod decoding;

@@ -14,8 +14,8 @@ use transforms::{target_size, targets_have_pixels};
 // The longest side of a source, in pixels: this project's own limit.
 const SOURCE_SIDE_LIMIT: u32 = 16_384;
 
-/// How a picture is decoded: its sample, its size when it is decoded and when it is shown, both as width and height in
-/// pixels, and how its pixels are stored. Bitmaps may have both sizes.
+/// How a picture is decoded: its sample, its size when it is decoded and when it is shown, both as width
+/// and height in pixels, and how its pixels are stored. Bitmaps may have both sizes.
 #[derive(Clone, Copy, Debug, PartialEq, Eq)]
 pub struct Plan {
     pub sample: u32,
@@ -62,9 +62,10 @@ fn plan_under(key: &EngineKey, source: (u32, u32)) -> Result<Plan, Refusal>
     })
 }
 
-/// How a text is decoded under a key, or why it is refused: by the first rule that its kind or its header breaks, and
-/// then as `TooLarge`, where a side of the source is above 16,384, or the source or what would be shown of it has more
-/// than 33,554,432 pixels. It takes no memory, and looks at nothing of the raster.
+/// How a text is decoded under a key, or why it is refused: by the first rule that its kind or its header
+/// breaks, and then as `TooLarge`, where a side of the source is above 16,384, or the source or what
+/// would be shown of it has more than 33,554,432 pixels. It takes no memory, and looks at nothing of the
+/// raster.
 #[tactic(auto, unfolding(crate::specs::Pictures::planned))]
 pub fn plan_of(bytes: &[u8], key: &EngineKey) -> Result<Plan, Refusal>
     ensures plan { result ≡ planned bytes.now key.now }

@@ -12,7 +12,8 @@ use crate::rows::PictureRows;
 use bitmap_kind::{Bitmap, pixels_are_stored_in_order};
 use sampling::BoxRows;
 
-// What each bitmap is: of a size that a bitmap may have, and with all its bytes. (A law: the call does nothing.)
+// What each bitmap is: of a size that a bitmap may have, and with all its bytes. (A law: the call does
+// nothing.)
 fn is_whole(bitmap: &Bitmap)
     ensures { IsBitmap bitmap.now.picture }
 {
@@ -55,8 +56,8 @@ pub fn put_rows(
     Ok(())
 }
 
-// Pushes a row, and puts the row of the sampled picture that waits then below those that are there. Answers how many
-// do: one, or none. The row's buffer is overwritten.
+// Pushes a row, and puts the row of the sampled picture that waits then below those that are there.
+// Answers how many do: one, or none. The row's buffer is overwritten.
 fn put_sampled_row(boxes: &mut BoxRows, row: &mut [u8], y: u32, bitmap: &mut Bitmap) -> u32
     requires wide { 1 ≤ boxes.old.width }
     requires row { length row.old ≡ 4 * boxes.old.width }
@@ -80,8 +81,8 @@ fn put_sampled_row(boxes: &mut BoxRows, row: &mut [u8], y: u32, bitmap: &mut Bit
     1
 }
 
-/// Puts the sampled picture of rows into a bitmap of its size. All rows are read, also those after the last that it
-/// uses. The row's buffer is overwritten.
+/// Puts the sampled picture of rows into a bitmap of its size. All rows are read, also those after the
+/// last that it uses. The row's buffer is overwritten.
 pub fn put_sampled_rows(
     rows: &mut PictureRows<'_>,
     boxes: &mut BoxRows,

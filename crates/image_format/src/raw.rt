@@ -3,7 +3,7 @@ ghost use Rattle.std.specs.Prelude.{◌≡◌, ◌↔◌, ◌+◌, ◌≤◌, le
 ghost use Rattle.std.specs.Int.{w32, from_le_bytes};
 ghost use Rattle.bitmap_kind.specs.Picture.{Picture};
 ghost use Rattle.cache_key.specs.KeyBytes.{config_byte};
-ghost use Rattle.image_format.specs.RawForm.{IsRawForm, IsRawSize, RawFormIsOfOnePicture, raw_picture, side_at};
+ghost use Rattle.image_format.specs.RawForm.{IsRawForm, IsRawSize, RawFormIsOfOnePicture, raw_picture, raw_picture_like, side_at};
 
 use bitmap_kind::{Bitmap, Config};
 use faults::NoMemory;
@@ -36,8 +36,9 @@ fn config_of(byte: u8) -> Option<Config>
     }
 }
 
-/// The raw form of a bitmap's picture: `GLR1`, a byte for its config (0 argb, 1 rgb565, 2 alpha), its width and its
-/// height as 32 bits with the low byte first, and its stored bytes, in one copy. This project keeps results so.
+/// The raw form of a bitmap's picture: `GLR1`, a byte for its config (0 argb, 1 rgb565, 2 alpha), its
+/// width and its height as 32 bits with the low byte first, and its stored bytes, in one copy. This
+/// project keeps results so.
 pub fn write_raw(alloc: Global, bitmap: &Bitmap) -> Result<Vec<u8>, NoMemory>
     ensures { IfOk result (λ text. IsRawForm text.items bitmap.now.picture) }
 {
@@ -70,10 +71,11 @@ fn is_raw_size(config: Config, width: u32, height: u32, size: usize) -> bool
     pixels * config.pixel_bytes() as u64 == size as u64
 }
 
-/// The config, the width and the height of the picture whose raw form the text is. None comes exactly where it is no
-/// picture's.
+/// The config, the width and the height of the picture whose raw form the text is. None comes exactly
+/// where it is no picture's.
 pub fn raw_head(bytes: &[u8]) -> Option<(Config, u32, u32)>
-    ensures form { IfSome result (λ head. IsRawForm bytes.now (raw_picture head.0 head.1 head.2 bytes.now)) }
+    ensures form { IfSome result (λ head. IsRawForm bytes.now
+        (raw_picture head.0 head.1 head.2 bytes.now)) }
     ensures found { (picture : Picture) → IsRawForm bytes.now picture
         → result ≡ Some (picture.config, picture.width, picture.height) }
 {
@@ -89,20 +91,20 @@ pub fn raw_head(bytes: &[u8]) -> Option<(Config, u32, u32)>
     Some((config, width, height))
 }
 
-/// Stores the picture whose raw form the text is, in one copy. The bitmap has the sides and the config that `raw_head`
-/// tells of the text.
+/// Stores the picture whose raw form the text is, in one copy. The bitmap has the sides and the config
+/// that `raw_head` answers of the text.
 pub fn read_raw(bytes: &[u8], target: &mut Bitmap)
-    requires { IsRawForm bytes.now (raw_picture target.old.picture.config target.old.picture.width target.old.picture.height bytes.now) }
+    requires { IsRawForm bytes.now (raw_picture_like target.old.picture bytes.now) }
     ensures target { target.new ≡ record target.old {
-      picture = raw_picture target.old.picture.config target.old.picture.width target.old.picture.height bytes.now;
+      picture = raw_picture_like target.old.picture bytes.now;
     } }
     ensures picture { IsRawForm bytes.now target.new.picture }
 {
     target.put_bytes(&bytes[HEAD_SIZE..]);
 }
 
-/// A text is the raw form of one picture at most, and a picture has one raw form. So what `write_raw` gives is read
-/// again as the same picture. (A law: the call does nothing.)
+/// A text is the raw form of one picture at most, and a picture has one raw form. So what `write_raw`
+/// gives is read again as the same picture. (A law: the call does nothing.)
 pub fn raw_form_is_of_one_picture()
     ensures { RawFormIsOfOnePicture }
 {}

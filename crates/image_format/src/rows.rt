@@ -33,8 +33,9 @@ pub fn open_rows(text: &[u8]) -> Result<((u32, u32), PictureRows<'_>), Refusal>
 }
 
 impl<'a> PictureRows<'a> {
-    /// Writes the next row, four bytes a pixel: red, green, blue and alpha. After the last row it answers false. The
-    /// fault of the picture's reader is the refusal, again at each later call, and leaves any bytes in the row.
+    /// Writes the next row, four bytes a pixel: red, green, blue and alpha. After the last row it answers
+    /// false. The fault of the picture's reader is the refusal, again at each later call, and leaves any
+    /// bytes in the row.
     pub fn next_row(&mut self, into: &mut [u8]) -> Result<bool, Refusal>
         requires { length into.old ≡ 4 * (rows_by self.old).width }
         ensures { RowStep (rows_by self.old) result into.new (rows_by self.new) }

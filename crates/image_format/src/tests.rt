@@ -6,6 +6,7 @@ ghost use Rattle.bitmap_kind.specs.Picture.{pixel_limit};
 ghost use Rattle.image_format.specs.Pictures.{source_side_limit, kind_of, is_too_large, picture_of};
 ghost use Rattle.image_format.specs.Content.{picture_at};
 ghost use Rattle.image_format.specs.RawForm.{raw_text};
+ghost use Rattle.image_format.specs.Worked.{argb, wanted};
 
 use crate::kinds::Kind;
 use crate::{DecodeFault, Plan, Refusal, decode_into, plan_of, raw_head, read_raw, write_raw};
@@ -17,66 +18,72 @@ use std::alloc::Global;
 use std::process::Abort;
 use std::test::Fail;
 
-// The definitions themselves on worked texts, computed where the tests are proved. The first is a red pixel and a blue
-// one. A text of no kind is unknown, and no reader's fault; one that has a kind keeps the fault of its own reader.
+// The definitions themselves on worked texts, computed where the tests are proved. The first is a red
+// pixel and a blue one. A text of no kind is unknown, and no reader's fault; one that has a kind keeps
+// the fault of its own reader.
 fn worked_pictures()
     ensures argb { picture_of (codes "P6 2 1 255 " ++ 255 ∷ 0 ∷ 0 ∷ 0 ∷ 0 ∷ 255 ∷ [])
-        record { url = codes "red"; sig = codes "1"; width = 2; height = 1; transform = Transform.Nothing; config = Config.Argb8888; rule = Rule.AtLeast }
-        ≡ Ok record { width = 2; height = 1; config = Config.Argb8888; bytes = 255 ∷ 0 ∷ 0 ∷ 255 ∷ 0 ∷ 0 ∷ 255 ∷ 255 ∷ [] } }
+        (wanted 2 1 Transform.Nothing Config.Argb8888 Rule.AtLeast)
+        ≡ Ok (argb 2 1 (255 ∷ 0 ∷ 0 ∷ 255 ∷ 0 ∷ 0 ∷ 255 ∷ 255 ∷ [])) }
     ensures rgb565 { picture_of (codes "P6 2 1 255 " ++ 255 ∷ 0 ∷ 0 ∷ 0 ∷ 0 ∷ 255 ∷ [])
-        record { url = codes "red"; sig = codes "1"; width = 2; height = 1; transform = Transform.Nothing; config = Config.Rgb565; rule = Rule.AtLeast }
+        (wanted 2 1 Transform.Nothing Config.Rgb565 Rule.AtLeast)
         ≡ Ok record { width = 2; height = 1; config = Config.Rgb565; bytes = 0 ∷ 248 ∷ 31 ∷ 0 ∷ [] } }
     ensures at_most { picture_of (codes "P2 4 1 255 1 2 3 4")
-        record { url = codes "red"; sig = codes "1"; width = 2; height = 1; transform = Transform.Nothing; config = Config.Argb8888; rule = Rule.AtMost }
-        ≡ Ok record { width = 2; height = 1; config = Config.Argb8888; bytes = 2 ∷ 2 ∷ 2 ∷ 255 ∷ 4 ∷ 4 ∷ 4 ∷ 255 ∷ [] } }
+        (wanted 2 1 Transform.Nothing Config.Argb8888 Rule.AtMost)
+        ≡ Ok (argb 2 1 (2 ∷ 2 ∷ 2 ∷ 255 ∷ 4 ∷ 4 ∷ 4 ∷ 255 ∷ [])) }
     ensures fit { picture_of (codes "P2 3 2 255 1 2 3 4 5 6")
-        record { url = codes "red"; sig = codes "1"; width = 2; height = 2; transform = Transform.Fit; config = Config.Argb8888; rule = Rule.AtLeast }
-        ≡ Ok record { width = 2; height = 1; config = Config.Argb8888; bytes = 4 ∷ 4 ∷ 4 ∷ 255 ∷ 6 ∷ 6 ∷ 6 ∷ 255 ∷ [] } }
+        (wanted 2 2 Transform.Fit Config.Argb8888 Rule.AtLeast)
+        ≡ Ok (argb 2 1 (4 ∷ 4 ∷ 4 ∷ 255 ∷ 6 ∷ 6 ∷ 6 ∷ 255 ∷ [])) }
     ensures unknown { picture_of (codes "hello")
-        record { url = codes "red"; sig = codes "1"; width = 2; height = 1; transform = Transform.Nothing; config = Config.Argb8888; rule = Rule.AtLeast } ≡ Err Refusal.Unknown }
+        (wanted 2 1 Transform.Nothing Config.Argb8888 Rule.AtLeast) ≡ Err Refusal.Unknown }
     ensures truncated { picture_of (codes "P6 2 1 255 ")
-        record { url = codes "red"; sig = codes "1"; width = 2; height = 1; transform = Transform.Nothing; config = Config.Argb8888; rule = Rule.AtLeast } ≡ Err (Refusal.Ppm PpmFault.Truncated) }
+        (wanted 2 1 Transform.Nothing Config.Argb8888 Rule.AtLeast) ≡ Err (Refusal.Ppm PpmFault.Truncated) }
     ensures large_target { picture_of (codes "P6 2 1 255 ")
-        record { url = codes "red"; sig = codes "1"; width = 16384; height = 16384; transform = Transform.Crop; config = Config.Argb8888; rule = Rule.AtLeast } ≡ Err Refusal.TooLarge }
+        (wanted 16384 16384 Transform.Crop Config.Argb8888 Rule.AtLeast) ≡ Err Refusal.TooLarge }
     ensures nothing { picture_at None
-        record { url = codes "red"; sig = codes "1"; width = 2; height = 1; transform = Transform.Nothing; config = Config.Argb8888; rule = Rule.AtLeast } ≡ None }
+        (wanted 2 1 Transform.Nothing Config.Argb8888 Rule.AtLeast) ≡ None }
 {}
 
-// The same of Windows bitmaps: 1 by 2 pixels of 24 bits, whose text is fields of four bytes after `BM`, and a text that
-// ends there.
+// The same of Windows bitmaps: 1 by 2 pixels of 24 bits, whose text is fields of four bytes after `BM`,
+// and a text that ends there.
 fn worked_bitmaps()
     ensures bottom_first { picture_of (codes "BM" ++ flat_map (to_le_bytes w32)
         (62 ∷ 0 ∷ 54 ∷ 40 ∷ 1 ∷ 2 ∷ 0x0018_0001 ∷ 0 ∷ 0 ∷ 0 ∷ 0 ∷ 0 ∷ 0 ∷ 0x0003_0201 ∷ 0x0006_0504 ∷ []))
-        record { url = codes "red"; sig = codes "1"; width = 1; height = 2; transform = Transform.Nothing; config = Config.Argb8888; rule = Rule.AtLeast }
-        ≡ Ok record { width = 1; height = 2; config = Config.Argb8888; bytes = 6 ∷ 5 ∷ 4 ∷ 255 ∷ 3 ∷ 2 ∷ 1 ∷ 255 ∷ [] } }
+        (wanted 1 2 Transform.Nothing Config.Argb8888 Rule.AtLeast)
+        ≡ Ok (argb 1 2 (6 ∷ 5 ∷ 4 ∷ 255 ∷ 3 ∷ 2 ∷ 1 ∷ 255 ∷ [])) }
     ensures truncated { picture_of (codes "BM")
-        record { url = codes "red"; sig = codes "1"; width = 2; height = 1; transform = Transform.Nothing; config = Config.Argb8888; rule = Rule.AtLeast } ≡ Err (Refusal.Bmp BmpFault.Truncated) }
+        (wanted 2 1 Transform.Nothing Config.Argb8888 Rule.AtLeast) ≡ Err (Refusal.Bmp BmpFault.Truncated) }
 {}
 
-// Kinds, and the limits on sizes: at the limit, and one past it. Each source is wanted at 16,384 by 2,048 pixels, which
-// are as many as a bitmap may have, or at a row more.
+// Kinds, and the limits on sizes: at the limit, and one past it. Each source is wanted at 16,384 by 2,048
+// pixels, which are as many as a bitmap may have, or at a row more.
 fn worked_limits()
     ensures bitmap { kind_of (codes "BM") ≡ Some Kind.Bitmap }
     ensures netpbm { kind_of (codes "P5 ") ≡ Some Kind.Netpbm }
     ensures neither { kind_of (codes "P4 ") ≡ None }
     ensures one_byte { kind_of (codes "P") ≡ None }
     ensures most_pixels { is_too_large
-        record { url = codes "red"; sig = codes "1"; width = 16384; height = 2048; transform = Transform.Crop; config = Config.Alpha8; rule = Rule.AtLeast }
+        (wanted 16384 2048 Transform.Crop Config.Alpha8 Rule.AtLeast)
         (source_side_limit, 2048) ≡ false }
     ensures a_row_more { is_too_large
-        record { url = codes "red"; sig = codes "1"; width = 16384; height = 2048; transform = Transform.Crop; config = Config.Alpha8; rule = Rule.AtLeast }
+        (wanted 16384 2048 Transform.Crop Config.Alpha8 Rule.AtLeast)
         (16384, 2049) ≡ true }
     ensures side_too_long { is_too_large
-        record { url = codes "red"; sig = codes "1"; width = 16384; height = 2048; transform = Transform.Crop; config = Config.Alpha8; rule = Rule.AtLeast }
+        (wanted 16384 2048 Transform.Crop Config.Alpha8 Rule.AtLeast)
         (16385, 1) ≡ true }
     ensures too_much_shown { is_too_large
-        record { url = codes "red"; sig = codes "1"; width = 16384; height = 2049; transform = Transform.Crop; config = Config.Alpha8; rule = Rule.AtLeast }
+        (wanted 16384 2049 Transform.Crop Config.Alpha8 Rule.AtLeast)
         (1, 1) ≡ true }
 {}
 
 // The raw form of a red pixel and a blue one in two bytes each.
 fn worked_raw_form()
-    ensures { raw_text record { width = 2; height = 1; config = Config.Rgb565; bytes = 0 ∷ 248 ∷ 31 ∷ 0 ∷ [] }
+    ensures { raw_text record {
+      width = 2;
+      height = 1;
+      config = Config.Rgb565;
+      bytes = 0 ∷ 248 ∷ 31 ∷ 0 ∷ [];
+    }
         ≡ codes "GLR1" ++ 1 ∷ 2 ∷ 0 ∷ 0 ∷ 0 ∷ 1 ∷ 0 ∷ 0 ∷ 0 ∷ 0 ∷ 248 ∷ 31 ∷ 0 ∷ [] }
 {}
 

@@ -1,5 +1,5 @@
--- The rows of a picture of either kind that are left while it is read, as one reader's: each fault is a refusal. Only
--- this crate's calls say it.
+-- The rows of a picture of either kind that are left while it is read, as one reader's: each fault is a
+-- refusal. Only this crate's calls say it.
 use Rattle.std.specs.Prelude.{◌≡◌, ℕ, List, Ok, Err, Result}
 use Rattle.std.specs.Option.{option_map}
 use Rattle.picture_rows.specs.RowsLeft.{RowsLeft, HasRows}

@@ -1,7 +1,6 @@
-use Rattle.std.proofs.Common.{◌≡◌, ℕ, sym, ap, subst, ◌∙◌, arith, Ok, Result}
-use Rattle.picture_rows.specs.FullPicture.{FullPicture, full_of}
+use Rattle.std.proofs.Common.{◌≡◌, sym, ap, subst, ◌∙◌, arith}
+use Rattle.picture_rows.specs.FullPicture.{full_of}
 use Rattle.image_format.specs.declared.plan.Plan.{Plan}
-use Rattle.image_format.specs.declared.refusal.Refusal.{Refusal}
 use Rattle.image_format.specs.Pictures.{decoded_under, decoded}
 use Rattle.image_format.specs.Answers.{Decodes}
 use Rattle.image_format.specs.inside.Rows.{rows_by}

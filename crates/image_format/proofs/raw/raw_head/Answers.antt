@@ -1,9 +1,9 @@
-use Rattle.std.proofs.Common.{◌≡◌, ℕ, ◌+◌, ◌-◌, length, Some, sym, ap, ◌∙◌, arith, refl, length-drop, true, false, codes}
+use Rattle.std.proofs.Common.{◌≡◌, ◌-◌, length, Some, ap, ◌∙◌, arith, refl, length-drop, true, false, codes}
 use Rattle.std.proofs.lemmas.Bool.{false≢true}
 use Rattle.std.proofs.lemmas.Bool.Decides.{Decides-eqb}
 use Rattle.std.proofs.lemmas.Slice.Eq.{starts_is}
 use Rattle.bitmap_kind.specs.Picture.{Picture}
-use Rattle.image_format.specs.RawForm.{IsRawForm, IsRawSize, raw_picture}
+use Rattle.image_format.specs.RawForm.{IsRawSize}
 use Rattle.image_format.proofs.RawTexts.{one_picture, raw_size, is_raw}
 use Rattle.image_format.proofs.raw.raw_head.Goals as goal
 
