@@ -26,3 +26,5 @@ pub mod Always
 pub mod Holds
 pub mod LaterHolds
 pub mod OnePlaces
+pub mod Computing
+pub mod Lookups

@@ -1,7 +1,8 @@
 -- What holds of the engine's world in each moment, and through each history. It is this project's own.
-use Rattle.std.specs.Prelude.{◌≡◌, ℕ, ◌<◌, true, false, List, ◌∷◌, ◌++◌, length, map, Some}
+use Rattle.std.specs.Prelude.{◌≡◌, ◌↔◌, ℕ, ◌<◌, true, false, List, ◌∷◌, ◌++◌, length, map, Some}
 use Rattle.std.specs.declared.option.Option.{Option}
 use Rattle.std.specs.FinMap.{get}
+use Rattle.std.specs.FinSet as set
 use Rattle.outside.specs.Content.{Contents}
 use Rattle.bitmap_kind.specs.declared.bitmaps.Config.{Config}
 use Rattle.cache_key.specs.Key.{Key}
@@ -9,19 +10,21 @@ use Rattle.state_machine.specs.declared.entry.Entry.{Entry}
 use Rattle.state_machine.specs.Legal.{Leads, IsLegal}
 use Rattle.load_table.specs.declared.loads.LoadState.TheVariants.{Ready}
 use Rattle.load_table.specs.Loads.{LoadName}
+use Rattle.active_resources.specs.Actives.{Numbers}
 use Rattle.engine_world.specs.declared.events.Event.{Event}
 use Rattle.engine_world.specs.declared.events.Event.TheVariants as events
 use Rattle.engine_world.specs.declared.events.NotedReply.{NotedReply}
 use Rattle.engine_world.specs.declared.events.NotedReply.TheVariants as replies
 use Rattle.engine_world.specs.declared.events.Note.{Note}
 use Rattle.engine_world.specs.declared.events.Lent.{Lent}
-use Rattle.engine_world.specs.World.{Resource, Limits, World, opening}
+use Rattle.engine_world.specs.World.{Loads, Resource, Resources, Limits, World, opening}
 use Rattle.engine_world.specs.Places.{occurrences, is_held, times_out, Place, IsAt}
+use Rattle.engine_world.specs.Moves.{has_key, active_of, cached_of}
 use Rattle.engine_world.specs.Balance.{totals, Balance}
 use Rattle.engine_world.specs.Steps.{Transition}
 use Rattle.engine_world.specs.Knowledge.{OwnLoad, Knowledge, knowledge_in, knowledge_with}
 use Rattle.engine_world.specs.Permits.{IsRunning, IsPicture, Permits}
-use Rattle.engine_world.specs.Sound.{Sound}
+use Rattle.engine_world.specs.Sound.{ActiveAre, CachedAre, Sound}
 use Rattle.engine_world.specs.EngineMachine.{opening_of, engine_machine}
 
 -- ---- one event
@@ -93,6 +96,18 @@ abbrev pub TakesAnother : Type 0
 TakesAnother = (w z : World) (known : ℕ → Knowledge) (who j width height : ℕ) (config : Config) (lent : Lent)
     → Sound w known → (run : IsRunning (known who) j)
     → Transition w who (events.Take j width height config) (replies.Taken lent) z → occurrences lent.number (map (λ (a : Lent). a.number) run.job.out) ≡ 0
+
+-- ---- looking
+
+-- The active resource of a key is the one that is active and has the key.
+abbrev pub FindsActive : Type 0
+FindsActive = (loads : Loads) (resources : Resources) (active : Numbers) → ActiveAre loads resources active
+    → (key : Key) (r : ℕ) → (active_of resources active key ≡ Some r) ↔ ((set.contains active r ≡ true) × (has_key resources key r ≡ true))
+
+-- And so is the cached one.
+abbrev pub FindsCached : Type 0
+FindsCached = (maximum : ℕ) (resources : Resources) (cached : List ℕ) → CachedAre maximum resources cached
+    → (key : Key) (r : ℕ) → (cached_of resources cached key ≡ Some r) ↔ ((0 < occurrences r cached) × (has_key resources key r ≡ true))
 
 -- ---- histories
 

@@ -8,3 +8,4 @@ pub mod Permits
 pub mod Sound
 pub mod EngineMachine
 pub mod Laws
+pub mod Worked

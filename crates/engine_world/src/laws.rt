@@ -4,7 +4,7 @@ ghost use Rattle.state_machine.specs.declared.entry.Entry.{Entry};
 ghost use Rattle.engine_world.specs.declared.events.Event.{Event};
 ghost use Rattle.engine_world.specs.declared.events.Note.{Note};
 ghost use Rattle.engine_world.specs.World.{World};
-ghost use Rattle.engine_world.specs.Laws.{KeepsSound, KeepsOpening, KeepsHolds, ReadyShowsItsKey, HasOnePlace, OnlyMadeHasPlace, TakesFree, TakesAnother, AlwaysSound, AlwaysBalanced, AlwaysHeld};
+ghost use Rattle.engine_world.specs.Laws.{KeepsSound, KeepsOpening, KeepsHolds, ReadyShowsItsKey, HasOnePlace, OnlyMadeHasPlace, TakesFree, TakesAnother, FindsActive, FindsCached, AlwaysSound, AlwaysBalanced, AlwaysHeld};
 
 /// From a sound world, an event that its seat is permitted leaves a sound one.
 pub fn each_event_keeps_sound()
@@ -37,6 +37,12 @@ pub fn each_bitmap_has_one_place()
 pub fn taken_bitmaps_were_free()
     ensures free { TakesFree }
     ensures another { TakesAnother }
+{}
+
+/// The active resource of a key is the one that is active and has the key, and so is the cached one.
+pub fn lookups_find_the_only_one()
+    ensures active { FindsActive }
+    ensures cached { FindsCached }
 {}
 
 /// Each world that a legal history leads to is sound, and its totals add up.

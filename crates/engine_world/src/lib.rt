@@ -4,10 +4,12 @@
 
 mod events;
 mod laws;
+#[cfg(test)]
+mod worked;
 
 pub use events::{Event, Lent, Note, NotedReply, Shape, Totals};
 pub use laws::{
     each_bitmap_has_one_place, each_event_keeps_holds, each_event_keeps_opening,
     each_event_keeps_sound, each_history_is_sound, each_history_keeps_holds,
-    ready_loads_show_their_keys, taken_bitmaps_were_free,
+    lookups_find_the_only_one, ready_loads_show_their_keys, taken_bitmaps_were_free,
 };
