@@ -37,7 +37,8 @@ totals w = record {
   recycled = w.next - kept_count w;
 }
 
--- Each load that was not Full was answered from one place, each take that gave a bitmap by a used one or a new one, and each bitmap that was made is in one place.
+-- Each load that was not Full was answered from one place, each take that gave a bitmap by a used one or
+-- a new one, and each bitmap that was made is in one place.
 pub record Balance (sums : Totals) : Type 0 where
   pub loads : sums.loads ≡ sums.active + sums.memory + sums.joined + sums.started
   pub takes : sums.takes ≡ sums.reused + sums.made

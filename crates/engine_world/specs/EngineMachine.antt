@@ -1,4 +1,5 @@
--- The engine as a machine whose callers take turns: its worlds, its seats, what an event asks of them, and its steps. It is this project's own.
+-- The engine as a machine whose callers take turns: its worlds, its seats, what an event asks of them,
+-- and its steps. It is this project's own.
 use Rattle.std.specs.Prelude.{ℕ, List, length}
 use Rattle.state_machine.specs.declared.entry.Entry.{Entry}
 use Rattle.state_machine.specs.declared.machine.Machine.{Ghosts}
@@ -24,8 +25,10 @@ asks start who own event = Permits start.content (learned own) event
 abbrev pub asked : World → ℕ → List (Entry Note) → Note → Type 0
 asked start who own note = asks start who own note.event
 
--- what an engine of type M stands for, by its world and the history of its steps; what it replies is noted so
-abbrev pub engine_machine : {M Reply : Type 0} → (M → World) → (M → List (Entry Note)) → (Event → Reply → Note) → Ghosts M Event Reply Note
+-- what an engine of type M stands for, by its world and the history of its steps; what it replies is
+-- noted so
+abbrev pub engine_machine : {M Reply : Type 0} → (M → World) → (M → List (Entry Note))
+    → (Event → Reply → Note) → Ghosts M Event Reply Note
 engine_machine world history note = record {
   World = World;
   opening = λ m. opening_of (world m);

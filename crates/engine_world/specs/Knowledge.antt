@@ -1,4 +1,5 @@
--- What a seat knows from its own entries in a history: its loads, and its job. That a caller keeps to what it was told is this project's own; Glide's callers hold objects in its place.
+-- What a seat knows from its own entries in a history: its loads, and its job. That a caller keeps to
+-- what it was told is this project's own; Glide's callers hold objects in its place.
 use Rattle.std.specs.Prelude.{ℕ, ◌+◌, Bool, true, false, List, [], ◌∷◌, ◌++◌, Some, None, if◌then◌else◌, ◌==◌}
 use Rattle.std.specs.declared.option.Option.{Option}
 use Rattle.std.specs.Ordering.{nat_cmp}
@@ -15,13 +16,15 @@ use Rattle.engine_world.specs.declared.events.Note.{Note}
 use Rattle.engine_world.specs.declared.events.Lent.{Lent}
 use Rattle.engine_world.specs.Moves.{without_lent}
 
--- A load that its owner has not released: the key of its Load entry and whether that was for what is cached alone, and whether it was answered Ready.
+-- A load that its owner has not released: the key of its Load entry and whether that was for what is
+-- cached alone, and whether it was answered Ready.
 pub record OwnLoad : Type 0 where
   pub key : Key
   pub cached : Bool
   pub ready : Bool
 
--- A seat's job: its number, what its starter asked for, how many bitmaps it took, those that it has, and whether the seat was told that it is cancelled.
+-- A seat's job: its number, what its starter asked for, how many bitmaps it took, those that it has, and
+-- whether the seat was told that it is cancelled.
 pub record OwnJob : Type 0 where
   pub number : ℕ
   pub spec : LoadSpec
@@ -29,7 +32,8 @@ pub record OwnJob : Type 0 where
   pub out : List Lent
   pub cancelled : Bool
 
--- What a seat knows: how many loads it made that were not Full, those that it has not released, and its job.
+-- What a seat knows: how many loads it made that were not Full, those that it has not released, and its
+-- job.
 pub record Knowledge : Type 0 where
   pub begun : ℕ
   pub loads : FinMap nat_cmp OwnLoad
@@ -44,7 +48,8 @@ abbrev pub own_load : LoadSpec → Bool → OwnLoad
 own_load spec ready = record { key = spec.key; cached = spec.cached; ready = ready }
 
 abbrev pub with_load : LoadSpec → Bool → Knowledge → Knowledge
-with_load spec ready known = record known { begun = known.begun + 1; loads = insert known.loads known.begun (own_load spec ready) }
+with_load spec ready known =
+    record known { begun = known.begun + 1; loads = insert known.loads known.begun (own_load spec ready) }
 
 abbrev pub after_load : LoadSpec → NotedReply → Knowledge → Knowledge
 after_load spec replies.Full known = known
@@ -53,14 +58,24 @@ after_load spec reply known = with_load spec false known
 
 abbrev pub with_ready : ℕ → Option OwnLoad → Knowledge → Knowledge
 with_ready n None known = known
-with_ready n (Some load) known = record known { loads = insert known.loads n (record load { ready = true }) }
+with_ready n (Some load) known =
+    record known { loads = insert known.loads n (record load { ready = true }) }
 
 abbrev pub after_collect : ℕ → NotedReply → Knowledge → Knowledge
 after_collect n replies.Ready known = with_ready n (get known.loads n) known
 after_collect n reply known = known
 
 abbrev pub after_next_job : NotedReply → Knowledge → Knowledge
-after_next_job (replies.Job j spec) known = record known { job = Some (record { number = j; spec = spec; takes = 0; out = []; cancelled = false }) }
+after_next_job (replies.Job j spec) known =
+    record known {
+      job = Some (record {
+        number = j;
+        spec = spec;
+        takes = 0;
+        out = [];
+        cancelled = false;
+      });
+    }
 after_next_job reply known = known
 
 abbrev pub job_with : Lent → Option OwnJob → Option OwnJob
@@ -90,7 +105,8 @@ updated (events.Collect n) reply known = after_collect n reply known
 updated (events.Release n) reply known = record known { loads = remove known.loads n }
 updated (events.NextJob room) reply known = after_next_job reply known
 updated (events.Take j width height config) reply known = after_take reply known
-updated (events.GiveBack j bitmap) reply known = record known { job = job_without bitmap.number known.job }
+updated (events.GiveBack j bitmap) reply known =
+    record known { job = job_without bitmap.number known.job }
 updated (events.Finish j bitmap) reply known = record known { job = None }
 updated (events.Fail j cause) reply known = record known { job = None }
 updated (events.Quit j) reply known = record known { job = None }

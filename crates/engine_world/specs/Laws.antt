@@ -29,7 +29,8 @@ use Rattle.engine_world.specs.EngineMachine.{opening_of, engine_machine}
 
 -- ---- one event
 
--- From a sound world, an event that its seat is permitted leaves a sound one, with what the seat knows by then.
+-- From a sound world, an event that its seat is permitted leaves a sound one, with what the seat knows by
+-- then.
 abbrev pub KeepsSound : Event → Type 0
 KeepsSound event = (w z : World) (known : ℕ → Knowledge) (who : ℕ) (reply : NotedReply)
     → who < length w.limits.quotas → Sound w known → Permits w.content (known who) event
@@ -37,7 +38,9 @@ KeepsSound event = (w z : World) (known : ℕ → Knowledge) (who : ℕ) (reply 
 
 -- It leaves the limits and the content as they are, and so the world that the engine opened with.
 abbrev pub KeepsOpening : Event → Type 0
-KeepsOpening event = (w z : World) (who : ℕ) (reply : NotedReply) → Transition w who event reply z → opening_of z ≡ opening_of w
+KeepsOpening event =
+    (w z : World) (who : ℕ) (reply : NotedReply) → Transition w who event reply z
+    → opening_of z ≡ opening_of w
 
 -- ---- a load that is ready
 
@@ -51,14 +54,17 @@ abbrev pub IsRelease : LoadName → ℕ → Event → Type 0
 IsRelease load who (events.Release n) = load ≡ (who, n)
 IsRelease load who event = ⊥
 
--- A load that is ready stays so, on the same resource with the same picture, through every event but its owner's release of it.
+-- A load that is ready stays so, on the same resource with the same picture, through every event but its
+-- owner's release of it.
 abbrev pub KeepsHolds : Event → Type 0
 KeepsHolds event = (w z : World) (known : ℕ → Knowledge) (who : ℕ) (reply : NotedReply)
     → who < length w.limits.quotas → Sound w known → Permits w.content (known who) event
     → Transition w who event reply z
-    → (load : LoadName) (r : ℕ) (resource : Resource) → IsHold w load r resource → (IsRelease load who event → ⊥) → IsHold z load r resource
+    → (load : LoadName) (r : ℕ) (resource : Resource) → IsHold w load r resource
+    → (IsRelease load who event → ⊥) → IsHold z load r resource
 
--- A load that its owner was answered Ready for is ready on a resource of its key, which has the key's picture where the content is told.
+-- A load that its owner was answered Ready for is ready on a resource of its key, which has the key's
+-- picture where the content is told.
 pub record ShowsItsKey (w : World) (load : LoadName) (key : Key) : Type 0 where
   pub number : ℕ
   pub resource : Resource
@@ -68,18 +74,22 @@ pub record ShowsItsKey (w : World) (load : LoadName) (key : Key) : Type 0 where
 
 abbrev pub ReadyShowsItsKey : Type 0
 ReadyShowsItsKey = (w : World) (known : ℕ → Knowledge) (who n : ℕ) (load : OwnLoad)
-    → Sound w known → get (known who).loads n ≡ Some load → load.ready ≡ true → ShowsItsKey w (who, n) load.key
+    → Sound w known → get (known who).loads n ≡ Some load → load.ready ≡ true
+    → ShowsItsKey w (who, n) load.key
 
 -- ---- places
 
 -- A bitmap that was made is in one place, and in no other.
 abbrev pub HasOnePlace : Type 0
 HasOnePlace = (w : World) (known : ℕ → Knowledge) → Sound w known
-    → (b : ℕ) → b < w.next → (place : Place) × IsAt w b place × ((other : Place) → IsAt w b other → other ≡ place)
+    → (b : ℕ) → b < w.next → (place : Place) × IsAt w b place
+    × ((other : Place) → IsAt w b other → other ≡ place)
 
 -- And what is in a place was made.
 abbrev pub OnlyMadeHasPlace : Type 0
-OnlyMadeHasPlace = (w : World) (known : ℕ → Knowledge) → Sound w known → (b : ℕ) (place : Place) → IsAt w b place → b < w.next
+OnlyMadeHasPlace =
+    (w : World) (known : ℕ → Knowledge) → Sound w known → (b : ℕ) (place : Place) → IsAt w b place
+    → b < w.next
 
 -- A number that is neither out nor held nor cached.
 pub record IsFree (w : World) (b : ℕ) : Type 0 where
@@ -90,47 +100,61 @@ pub record IsFree (w : World) (b : ℕ) : Type 0 where
 -- What a take answers was free, and so its number is not that of a bitmap that the job has.
 abbrev pub TakesFree : Type 0
 TakesFree = (w z : World) (known : ℕ → Knowledge) (who j width height : ℕ) (config : Config) (lent : Lent)
-    → Sound w known → Transition w who (events.Take j width height config) (replies.Taken lent) z → IsFree w lent.number
+    → Sound w known → Transition w who (events.Take j width height config) (replies.Taken lent) z
+    → IsFree w lent.number
 
 abbrev pub TakesAnother : Type 0
-TakesAnother = (w z : World) (known : ℕ → Knowledge) (who j width height : ℕ) (config : Config) (lent : Lent)
+TakesAnother =
+    (w z : World) (known : ℕ → Knowledge) (who j width height : ℕ) (config : Config) (lent : Lent)
     → Sound w known → (run : IsRunning (known who) j)
-    → Transition w who (events.Take j width height config) (replies.Taken lent) z → occurrences lent.number (map (λ (a : Lent). a.number) run.job.out) ≡ 0
+    → Transition w who (events.Take j width height config) (replies.Taken lent) z
+    → occurrences lent.number (map (λ (a : Lent). a.number) run.job.out) ≡ 0
 
 -- ---- looking
 
 -- The active resource of a key is the one that is active and has the key.
 abbrev pub FindsActive : Type 0
-FindsActive = (loads : Loads) (resources : Resources) (active : Numbers) → ActiveAre loads resources active
-    → (key : Key) (r : ℕ) → (active_of resources active key ≡ Some r) ↔ ((set.contains active r ≡ true) × (has_key resources key r ≡ true))
+FindsActive =
+    (loads : Loads) (resources : Resources) (active : Numbers) → ActiveAre loads resources active
+    → (key : Key) (r : ℕ) → (active_of resources active key ≡ Some r)
+    ↔ ((set.contains active r ≡ true) × (has_key resources key r ≡ true))
 
 -- And so is the cached one.
 abbrev pub FindsCached : Type 0
 FindsCached = (maximum : ℕ) (resources : Resources) (cached : List ℕ) → CachedAre maximum resources cached
-    → (key : Key) (r : ℕ) → (cached_of resources cached key ≡ Some r) ↔ ((0 < occurrences r cached) × (has_key resources key r ≡ true))
+    → (key : Key) (r : ℕ) → (cached_of resources cached key ≡ Some r)
+    ↔ ((0 < occurrences r cached) × (has_key resources key r ≡ true))
 
 -- ---- histories
 
 -- None of these entries is the owner's release of this load.
 abbrev pub NoRelease : LoadName → List (Entry Note) → Type 0
-NoRelease load later = (xs ys : List (Entry Note)) (e : Entry Note) → later ≡ xs ++ e ∷ ys → IsRelease load e.by e.note.event → ⊥
+NoRelease load later =
+    (xs ys : List (Entry Note)) (e : Entry Note) → later ≡ xs ++ e ∷ ys
+    → IsRelease load e.by e.note.event → ⊥
 
 -- for each kind of engine, by how it shows its world and its history, and what it notes of a reply
-module _ {M Reply : Type 0} (world : M → World) (history : M → List (Entry Note)) (note : Event → Reply → Note) where
-  -- Whatever the seats were answered, by entries of which each asked no more than it might, the world is sound.
+module _ {M Reply : Type 0} (world : M → World) (history : M → List (Entry Note))
+    (note : Event → Reply → Note) where
+  -- Whatever the seats were answered, by entries of which each asked no more than it might, the world is
+  -- sound.
   abbrev pub AlwaysSound : Type 0
   AlwaysSound = (limits : Limits) (content : Option Contents) (past : List (Entry Note)) (w : World)
-      → IsLegal (engine_machine world history note) (opening limits content) past w → Sound w (knowledge_in past)
+      → IsLegal (engine_machine world history note) (opening limits content) past w
+      → Sound w (knowledge_in past)
 
   -- And the totals add up.
   abbrev pub AlwaysBalanced : Type 0
   AlwaysBalanced = (limits : Limits) (content : Option Contents) (past : List (Entry Note)) (w : World)
       → IsLegal (engine_machine world history note) (opening limits content) past w → Balance (totals w)
 
-  -- A load that is ready is so, on the same resource with the same picture, after each later history without its owner's release of it.
+  -- A load that is ready is so, on the same resource with the same picture, after each later history
+  -- without its owner's release of it.
   abbrev pub AlwaysHeld : Type 0
-  AlwaysHeld = (limits : Limits) (content : Option Contents) (past later : List (Entry Note)) (w z : World)
+  AlwaysHeld =
+      (limits : Limits) (content : Option Contents) (past later : List (Entry Note)) (w z : World)
       → IsLegal (engine_machine world history note) (opening limits content) past w
       → IsLegal (engine_machine world history note) (opening limits content) (past ++ later) z
       → Leads (engine_machine world history note) w later z
-      → (load : LoadName) (r : ℕ) (resource : Resource) → IsHold w load r resource → NoRelease load later → IsHold z load r resource
+      → (load : LoadName) (r : ℕ) (resource : Resource) → IsHold w load r resource → NoRelease load later
+      → IsHold z load r resource

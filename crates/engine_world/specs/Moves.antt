@@ -1,4 +1,5 @@
--- The changes of the engine's state of which its steps are made. Each is Glide's, but for what is said here to be this project's own, and for what the definitions of pool and memory cache say of theirs.
+-- The changes of the engine's state of which its steps are made. Each is Glide's, but for what is said
+-- here to be this project's own, and for what the definitions of pool and memory cache say of theirs.
 use Rattle.std.specs.Prelude.{ℕ, ◌+◌, Bool, true, false, not, ◌==◌, List, [], ◌∷◌, ◌++◌, filter, find, slice_index_or, slice_set, Some, None, if◌then◌else◌}
 use Rattle.std.specs.declared.option.Option.{Option}
 use Rattle.std.specs.Option.{is_none}
@@ -42,7 +43,8 @@ table_job job = record { spec = job.spec; seat = job.seat; cancelled = job.cance
 abbrev pub table_jobs : Jobs → job_table.Jobs
 table_jobs jobs = map_values table_job jobs
 
--- the job that a load of this key and kind joins: one that is not cancelled, and that may ask the source exactly where the load may
+-- the job that a load of this key and kind joins: one that is not cancelled, and that may ask the source
+-- exactly where the load may
 abbrev pub job_for : Jobs → Key → Bool → Option ℕ
 job_for jobs key cached = job_table.job_for key cached (table_jobs jobs)
 
@@ -83,7 +85,8 @@ all_to_pool (r ∷ rs) w = all_to_pool rs (to_pool r w)
 -- What does not fit within a room leaves the memory cache for the pool, the eldest first.
 abbrev pub shrink_cache : ℕ → World → World
 shrink_cache room w =
-    all_to_pool (cache_gone (size_of w.resources) room w.cached) (record w { cached = cache_kept (size_of w.resources) room w.cached })
+    all_to_pool (cache_gone (size_of w.resources) room w.cached)
+    (record w { cached = cache_kept (size_of w.resources) room w.cached })
 
 -- A cached resource leaves the memory cache and goes to the pool.
 abbrev pub cached_to_pool : Option ℕ → World → World
@@ -94,13 +97,15 @@ cached_to_pool (Some r) w = to_pool r (record w { cached = without r w.cached })
 abbrev pub cache_first : ℕ → World → World
 cache_first r w = shrink_cache w.limits.memory (record w { cached = r ∷ w.cached })
 
--- A resource goes to the memory cache, in place of another of its key; one that is too large goes to the pool.
+-- A resource goes to the memory cache, in place of another of its key; one that is too large goes to the
+-- pool.
 abbrev pub to_cache : ℕ → Resource → World → World
 to_cache r resource w =
     if is_too_large w.limits.memory resource.allocation then to_pool r w
     else cache_first r (cached_to_pool (cached_of w.resources w.cached resource.key) w)
 
--- A resource that no load holds any more goes to the memory cache, or where it is not cacheable to the pool.
+-- A resource that no load holds any more goes to the memory cache, or where it is not cacheable to the
+-- pool.
 abbrev pub retire : ℕ → Option Resource → World → World
 retire r None w = w
 retire r (Some resource) w = if resource.cacheable then to_cache r resource w else to_pool r w
@@ -129,7 +134,8 @@ add_load who state w = record w {
 abbrev pub end_job : ℕ → Settle Cause → World → World
 end_job j to w = record w { loads = map_values (settled j to) w.loads; jobs = remove w.jobs j }
 
--- A job on which no load waits any more: a queued one goes, a running one is cancelled. That a queued one goes at once is this project's own.
+-- A job on which no load waits any more: a queued one goes, a running one is cancelled. That a queued one
+-- goes at once is this project's own.
 abbrev pub cancel_job : ℕ → Option Job → World → World
 cancel_job j None w = w
 cancel_job j (Some job) w =
@@ -142,7 +148,8 @@ leave_job j w = if waiting j w.loads == 0 then cancel_job j (get w.jobs j) w els
 -- A bitmap is lent to a job.
 abbrev pub lend : ℕ → Option Job → Lent → World → World
 lend j None lent w = w
-lend j (Some job) lent w = record w { jobs = insert w.jobs j (record job { takes = job.takes + 1; out = job.out ++ lent ∷ [] }) }
+lend j (Some job) lent w =
+    record w { jobs = insert w.jobs j (record job { takes = job.takes + 1; out = job.out ++ lent ∷ [] }) }
 
 -- what a job has without the bitmap of this number
 abbrev pub without_lent : ℕ → List Lent → List Lent
@@ -151,7 +158,8 @@ without_lent b out = filter (λ lent. not (lent.number == b)) out
 -- A job gives a bitmap back.
 abbrev pub take_back : ℕ → Option Job → ℕ → World → World
 take_back j None b w = w
-take_back j (Some job) b w = record w { jobs = insert w.jobs j (record job { out = without_lent b job.out }) }
+take_back j (Some job) b w =
+    record w { jobs = insert w.jobs j (record job { out = without_lent b job.out }) }
 
 -- ---- trimming
 

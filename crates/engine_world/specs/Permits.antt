@@ -1,4 +1,5 @@
--- What an event asks of what its caller knows, and of the content. That a caller keeps to what it was told is this project's own; Glide's callers hold objects in its place.
+-- What an event asks of what its caller knows, and of the content. That a caller keeps to what it was
+-- told is this project's own; Glide's callers hold objects in its place.
 use Rattle.std.specs.Prelude.{◌≡◌, ℕ, ◌<◌, ◌⊎◌, true, List, [], ◌∷◌, Some, None, Ok, Err, ⊤}
 use Rattle.std.specs.declared.option.Option.{Option}
 use Rattle.std.specs.FinMap.{get}
@@ -74,10 +75,16 @@ Permits content known (events.Look n) = IsOwnReady known n
 Permits content known (events.Read n at) = IsOwnReady known n
 Permits content known (events.Release n) = IsOwn known n
 Permits content known (events.NextJob room) = known.job ≡ None
-Permits content known (events.Take j width height config) = (run : IsRunning known j) × (run.job.takes < 2) × IsSize width height
-Permits content known (events.GiveBack j bitmap) = (run : IsRunning known j) × IsAmongLent bitmap run.job.out
-Permits content known (events.Finish j bitmap) = (run : IsRunning known j) × IsResult bitmap run.job.out × IsPicture content run.job.spec.key bitmap.picture
-Permits content known (events.Fail j cause) = (run : IsRunning known j) × (run.job.out ≡ []) × IsCause content run.job.spec.key cause
-Permits content known (events.Quit j) = (run : IsRunning known j) × (run.job.out ≡ []) × (run.job.cancelled ≡ true)
+Permits content known (events.Take j width height config) =
+    (run : IsRunning known j) × (run.job.takes < 2) × IsSize width height
+Permits content known (events.GiveBack j bitmap) =
+    (run : IsRunning known j) × IsAmongLent bitmap run.job.out
+Permits content known (events.Finish j bitmap) =
+    (run : IsRunning known j) × IsResult bitmap run.job.out
+    × IsPicture content run.job.spec.key bitmap.picture
+Permits content known (events.Fail j cause) =
+    (run : IsRunning known j) × (run.job.out ≡ []) × IsCause content run.job.spec.key cause
+Permits content known (events.Quit j) =
+    (run : IsRunning known j) × (run.job.out ≡ []) × (run.job.cancelled ≡ true)
 Permits content known (events.IsCancelled j) = IsRunning known j
 Permits content known event = ⊤

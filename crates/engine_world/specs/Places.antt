@@ -1,4 +1,5 @@
--- Where a bitmap is. The places are those that Glide's EngineJob, ActiveResources, LruResourceCache and LruBitmapPool keep bitmaps in, and no place at all; that each bitmap has one is this project's own.
+-- Where a bitmap is. The places are those that Glide's EngineJob, ActiveResources, LruResourceCache and
+-- LruBitmapPool keep bitmaps in, and no place at all; that each bitmap has one is this project's own.
 use Rattle.std.specs.Prelude.{◌≡◌, ℕ, ◌+◌, ◌<◌, ◌≤◌, Bool, true, ◌&&◌, ◌==◌, nat_lt, List, [], ◌∷◌, map, Some, if◌then◌else◌}
 use Rattle.std.specs.FinMap.{get, contains_key}
 use Rattle.finite_maps.specs.Maps.{total}
@@ -38,17 +39,23 @@ pub record Whereabouts : Type 0 where
   pub pool : List (Group ℕ)
 
 abbrev pub whereabouts : World → Whereabouts
-whereabouts w = record { loads = w.loads; jobs = w.jobs; resources = w.resources; cached = w.cached; pool = w.pool }
+whereabouts w =
+    record { loads = w.loads; jobs = w.jobs; resources = w.resources; cached = w.cached; pool = w.pool }
 
--- how often a number stands among those that are out, held, cached and pooled, all of them written in one list
+-- how often a number stands among those that are out, held, cached and pooled, all of them written in one
+-- list
 abbrev pub times_kept : Whereabouts → ℕ → ℕ
-times_kept at b = times_out at.jobs b + one_if (is_held at.loads at.resources b) + occurrences b at.cached + occurrences b (pooled at.pool)
+times_kept at b =
+    times_out at.jobs b + one_if (is_held at.loads at.resources b)
+    + occurrences b at.cached + occurrences b (pooled at.pool)
 
--- Each number that is out, held, cached or pooled is so once, and is below the next one. Each resource is held or cached.
+-- Each number that is out, held, cached or pooled is so once, and is below the next one. Each resource is
+-- held or cached.
 pub record OnePlace (at : Whereabouts) (next : ℕ) : Type 0 where
   pub once : (b : ℕ) → times_kept at b ≤ 1
   pub below : (b : ℕ) → 0 < times_kept at b → b < next
-  pub kept : (r : ℕ) (resource : Resource) → get at.resources r ≡ Some resource → 0 < one_if (is_held at.loads at.resources r) + occurrences r at.cached
+  pub kept : (r : ℕ) (resource : Resource) → get at.resources r ≡ Some resource
+      → 0 < one_if (is_held at.loads at.resources r) + occurrences r at.cached
 
 -- ---- the place of one bitmap
 

@@ -17,21 +17,28 @@ use Rattle.engine_world.specs.Moves.{size_of}
 use Rattle.engine_world.specs.Knowledge.{OwnLoad, OwnJob, Knowledge}
 use Rattle.engine_world.specs.Permits.{IsPicture}
 
--- ---- part 1: loads
+-- ---- loads
 
--- What a load waits on, or is ready on, is there and has the key that the load was made with. A job besides is not cancelled, and of the load's kind: it asks what is cached alone exactly where the load does.
+-- What a load waits on, or is ready on, is there and has the key that the load was made with. A job
+-- besides is not cancelled, and of the load's kind: it asks what is cached alone exactly where the load
+-- does.
 abbrev pub RefersTo : Jobs → Resources → OwnLoad → LoadState → Type 0
-RefersTo jobs resources load (Waiting j) = (job : Job) × (get jobs j ≡ Some job) × (job.cancelled ≡ false) × (job.spec.key ≡ load.key) × (job.spec.cached ≡ load.cached)
-RefersTo jobs resources load (Ready r) = (resource : Resource) × (get resources r ≡ Some resource) × (resource.key ≡ load.key)
+RefersTo jobs resources load (Waiting j) =
+    (job : Job) × (get jobs j ≡ Some job) × (job.cancelled ≡ false) × (job.spec.key ≡ load.key)
+    × (job.spec.cached ≡ load.cached)
+RefersTo jobs resources load (Ready r) =
+    (resource : Resource) × (get resources r ≡ Some resource) × (resource.key ≡ load.key)
 RefersTo jobs resources load (Failed cause) = ⊤
 
 -- Each job that is not cancelled has a load that waits on it.
 abbrev pub AllAwaited : Loads → Jobs → Type 0
-AllAwaited loads jobs = (j : ℕ) (job : Job) → get jobs j ≡ Some job → job.cancelled ≡ false → 0 < waiting j loads
+AllAwaited loads jobs =
+    (j : ℕ) (job : Job) → get jobs j ≡ Some job → job.cancelled ≡ false → 0 < waiting j loads
 
--- ---- part 2: jobs
+-- ---- jobs
 
--- A job has bitmaps only while it runs, and no more than it took: at most two. Its number is below the count of jobs that were started.
+-- A job has bitmaps only while it runs, and no more than it took: at most two. Its number is below the
+-- count of jobs that were started.
 pub record IsJob (started j : ℕ) (job : Job) : Type 0 where
   pub below : j < started
   pub queued : job.seat ≡ None → (job.takes ≡ 0) × (job.cancelled ≡ false)
@@ -41,31 +48,37 @@ pub record IsJob (started j : ℕ) (job : Job) : Type 0 where
 pub record JobsAre (started : ℕ) (jobs : Jobs) : Type 0 where
   pub each : (j : ℕ) (job : Job) → get jobs j ≡ Some job → IsJob started j job
   -- of one key and kind at most one that is not cancelled
-  pub apart : (i j : ℕ) (a b : Job) → get jobs i ≡ Some a → get jobs j ≡ Some b → a.cancelled ≡ false → b.cancelled ≡ false → a.spec.key ≡ b.spec.key → a.spec.cached ≡ b.spec.cached → i ≡ j
+  pub apart : (i j : ℕ) (a b : Job) → get jobs i ≡ Some a → get jobs j ≡ Some b → a.cancelled ≡ false
+      → b.cancelled ≡ false → a.spec.key ≡ b.spec.key → a.spec.cached ≡ b.spec.cached → i ≡ j
   -- a seat runs at most one
-  pub seats : (i j who : ℕ) (a b : Job) → get jobs i ≡ Some a → get jobs j ≡ Some b → a.seat ≡ Some who → b.seat ≡ Some who → i ≡ j
+  pub seats : (i j who : ℕ) (a b : Job) → get jobs i ≡ Some a → get jobs j ≡ Some b → a.seat ≡ Some who
+      → b.seat ≡ Some who → i ≡ j
 
--- ---- part 3: active and cached resources
+-- ---- active and cached resources
 
 -- A resource that is there, and may be asked for again.
 abbrev pub IsCacheable : Resources → ℕ → Type 0
-IsCacheable resources r = (resource : Resource) × (get resources r ≡ Some resource) × (resource.cacheable ≡ true)
+IsCacheable resources r =
+    (resource : Resource) × (get resources r ≡ Some resource) × (resource.cacheable ≡ true)
 
 -- No two of them have one key.
 abbrev pub KeysApart : Resources → (ℕ → Type 0) → Type 0
-KeysApart resources Among = (p q : ℕ) (a b : Resource) → Among p → Among q → get resources p ≡ Some a → get resources q ≡ Some b → a.key ≡ b.key → p ≡ q
+KeysApart resources Among =
+    (p q : ℕ) (a b : Resource) → Among p → Among q → get resources p ≡ Some a → get resources q ≡ Some b
+    → a.key ≡ b.key → p ≡ q
 
 pub record ActiveAre (loads : Loads) (resources : Resources) (active : Numbers) : Type 0 where
   pub each : (r : ℕ) → set.contains active r ≡ true → IsCacheable resources r × (0 < holders r loads)
   pub apart : KeysApart resources (λ r. set.contains active r ≡ true)
 
 pub record CachedAre (maximum : ℕ) (resources : Resources) (cached : List ℕ) : Type 0 where
-  pub each : (r : ℕ) → 0 < occurrences r cached → IsCacheable resources r × (size_of resources r < maximum)
+  pub each : (r : ℕ) → 0 < occurrences r cached → IsCacheable resources r
+      × (size_of resources r < maximum)
   pub apart : KeysApart resources (λ r. 0 < occurrences r cached)
   pub size : sum_by (size_of resources) cached ≤ maximum
   pub few : length cached ≤ 1024
 
--- ---- part 4: the pool
+-- ---- the pool
 
 -- The groups have distinct sizes or configs.
 abbrev pub GroupsApart : List (Group ℕ) → Type 0
@@ -78,7 +91,7 @@ pub record PoolIs (maximum : ℕ) (pool : List (Group ℕ)) : Type 0 where
   pub few : pool_count pool ≤ 1024
   pub groups : length pool ≤ 2048
 
--- ---- part 5: allocations
+-- ---- allocations
 
 -- An allocation has room for a picture of these sides and this config, and is at most 8 times as large.
 pub record Serves (allocation width height : ℕ) (config : Config) : Type 0 where
@@ -89,14 +102,14 @@ abbrev pub AllServe : List Lent → Type 0
 AllServe [] = ⊤
 AllServe (lent ∷ out) = Serves lent.allocation lent.width lent.height lent.config × AllServe out
 
--- ---- parts 5 and 6: resources
+-- ---- resources
 
 -- A resource's allocation serves its picture, which is that of its key where the content is told.
 pub record IsResource (content : Option Contents) (resource : Resource) : Type 0 where
   pub serves : Serves resource.allocation resource.picture.width resource.picture.height resource.picture.config
   pub picture_is : IsPicture content resource.key resource.picture
 
--- ---- part 7: what seats know
+-- ---- what seats know
 
 abbrev pub IsReady : LoadState → Type 0
 IsReady (Waiting j) = ⊥
@@ -104,7 +117,8 @@ IsReady (Ready r) = ⊤
 IsReady (Failed cause) = ⊥
 
 -- What a seat knows of a load is so: and where it was answered Ready, the load is ready.
-pub record LoadAgrees (jobs : Jobs) (resources : Resources) (load : OwnLoad) (state : LoadState) : Type 0 where
+pub record LoadAgrees (jobs : Jobs) (resources : Resources) (load : OwnLoad)
+    (state : LoadState) : Type 0 where
   pub refers : RefersTo jobs resources load state
   pub ready : load.ready ≡ true → IsReady state
 
@@ -133,14 +147,17 @@ pub record Facts : Type 0 where
 abbrev pub facts : World → Facts
 facts w = record { loads = w.loads; jobs = w.jobs; resources = w.resources; begun = w.begun }
 
--- All that a seat knows is so: its count of loads that were not Full, its loads and how many they are, and its job.
+-- All that a seat knows is so: its count of loads that were not Full, its loads and how many they are,
+-- and its job.
 pub record KnowledgeAgrees (now : Facts) (who : ℕ) (known : Knowledge) : Type 0 where
   pub count : slice_index_or now.begun who 0 ≡ known.begun
   pub below : (n : ℕ) (load : OwnLoad) → get known.loads n ≡ Some load → n < known.begun
   pub each : (n : ℕ) → LoadsAgree now.jobs now.resources (get known.loads n) (get now.loads (who, n))
   pub live : owned who now.loads ≡ len known.loads
-  pub runs : (own : OwnJob) → known.job ≡ Some own → (job : Job) × (get now.jobs own.number ≡ Some job) × JobAgrees who own job
-  pub knows : (j : ℕ) (job : Job) → get now.jobs j ≡ Some job → job.seat ≡ Some who → (own : OwnJob) × (known.job ≡ Some own) × (own.number ≡ j)
+  pub runs : (own : OwnJob) → known.job ≡ Some own → (job : Job) × (get now.jobs own.number ≡ Some job)
+      × JobAgrees who own job
+  pub knows : (j : ℕ) (job : Job) → get now.jobs j ≡ Some job → job.seat ≡ Some who → (own : OwnJob)
+      × (known.job ≡ Some own) × (own.number ≡ j)
 
 -- ---- all of it
 
@@ -152,7 +169,8 @@ pub record Sound (w : World) (known : ℕ → Knowledge) : Type 0 where
   pub cached : CachedAre w.limits.memory w.resources w.cached
   pub pool : PoolIs w.limits.pool w.pool
   pub lent : (j : ℕ) (job : Job) → get w.jobs j ≡ Some job → AllServe job.out
-  pub resources : (r : ℕ) (resource : Resource) → get w.resources r ≡ Some resource → IsResource w.content resource
+  pub resources : (r : ℕ) (resource : Resource) → get w.resources r ≡ Some resource
+      → IsResource w.content resource
   -- each seat has a count of its loads
   pub seats : length w.begun ≡ length w.limits.quotas
   pub known_is : (who : ℕ) → KnowledgeAgrees (facts w) who (known who)

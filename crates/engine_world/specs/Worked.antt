@@ -17,7 +17,16 @@ use Rattle.engine_world.specs.World.{Job, Resource, World, no_counts, opening}
 
 -- a url of one byte, wanted at one pixel
 abbrev pub key : ℕ → Key
-key n = record { url = n ∷ []; sig = []; width = 1; height = 1; transform = transforms.Nothing; config = Argb8888; rule = AtLeast }
+key n =
+    record {
+      url = n ∷ [];
+      sig = [];
+      width = 1;
+      height = 1;
+      transform = transforms.Nothing;
+      config = Argb8888;
+      rule = AtLeast;
+    }
 
 abbrev pub spec : ℕ → Priority → LoadSpec
 spec n priority = record empty_spec { key = key n; priority = priority }
@@ -29,7 +38,8 @@ queued_for wanted = record { spec = wanted; seat = None; cancelled = false; take
 abbrev pub running_for : LoadSpec → ℕ → Job
 running_for wanted who = record (queued_for wanted) { seat = Some who }
 
--- ---- priorities and quota: a seat with a quota of two loads A with priority low, B with normal, and then C; three seats ask for jobs
+-- ---- priorities and quota: a seat with a quota of two loads A with priority low, B with normal, and
+-- then C; three seats ask for jobs
 
 abbrev pub start : World
 start = opening (record { pool = 1000; memory = 1000; quotas = 2 ∷ 0 ∷ 0 ∷ [] }) None
@@ -56,7 +66,8 @@ b_runs = record b_loaded { jobs = insert b_loaded.jobs 1 (running_for (spec 2 No
 abbrev pub both_run : World
 both_run = record b_runs { jobs = insert b_runs.jobs 0 (running_for (spec 1 Low) 2) }
 
--- ---- a resource that another of its key replaces: a load of K, and one of K that asks what is cached alone; two seats run their jobs
+-- ---- a resource that another of its key replaces: a load of K, and one of K that asks what is cached
+-- alone; two seats run their jobs
 
 -- the load of K of each kind
 abbrev pub of_kind : Bool → LoadSpec
@@ -115,7 +126,12 @@ r5 = record r4 {
 }
 
 abbrev pub r6 : World
-r6 = record r5 { jobs = insert r5.jobs 1 (decoding true 2 1); next = 2; counts = record r2.counts { takes = 2 } }
+r6 =
+    record r5 {
+      jobs = insert r5.jobs 1 (decoding true 2 1);
+      next = 2;
+      counts = record r2.counts { takes = 2 };
+    }
 
 -- the first finishes
 abbrev pub r7 : World
