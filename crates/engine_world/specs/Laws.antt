@@ -158,3 +158,20 @@ module _ {M Reply : Type 0} (world : M → World) (history : M → List (Entry N
       → Leads (engine_machine world history note) w later z
       → (load : LoadName) (r : ℕ) (resource : Resource) → IsHold w load r resource → NoRelease load later
       → IsHold z load r resource
+
+-- ---- the same, for each kind of engine that is shown somehow
+
+abbrev pub HistoriesAreSound : (M Reply : Type 0) → Type 0
+HistoriesAreSound M Reply =
+    (world : M → World) (history : M → List (Entry Note)) (note : Event → Reply → Note)
+    → AlwaysSound world history note
+
+abbrev pub HistoriesBalance : (M Reply : Type 0) → Type 0
+HistoriesBalance M Reply =
+    (world : M → World) (history : M → List (Entry Note)) (note : Event → Reply → Note)
+    → AlwaysBalanced world history note
+
+abbrev pub HistoriesKeepHolds : (M Reply : Type 0) → Type 0
+HistoriesKeepHolds M Reply =
+    (world : M → World) (history : M → List (Entry Note)) (note : Event → Reply → Note)
+    → AlwaysHeld world history note

@@ -1,10 +1,6 @@
 // The laws of the engine's world, each as the contract of a function that does nothing.
-ghost use Rattle.std.specs.Prelude.{List};
-ghost use Rattle.state_machine.specs.declared.entry.Entry.{Entry};
 ghost use Rattle.engine_world.specs.declared.events.Event.{Event};
-ghost use Rattle.engine_world.specs.declared.events.Note.{Note};
-ghost use Rattle.engine_world.specs.World.{World};
-ghost use Rattle.engine_world.specs.Laws.{KeepsSound, KeepsOpening, KeepsHolds, ReadyShowsItsKey, HasOnePlace, OnlyMadeHasPlace, TakesFree, TakesAnother, FindsActive, FindsCached, AlwaysSound, AlwaysBalanced, AlwaysHeld};
+ghost use Rattle.engine_world.specs.Laws.{KeepsSound, KeepsOpening, KeepsHolds, ReadyShowsItsKey, HasOnePlace, OnlyMadeHasPlace, TakesFree, TakesAnother, FindsActive, FindsCached, HistoriesAreSound, HistoriesBalance, HistoriesKeepHolds};
 
 /// From a sound world, an event that its seat is permitted leaves a sound one.
 pub fn each_event_keeps_sound()
@@ -47,12 +43,12 @@ pub fn lookups_find_the_only_one()
 
 /// Each world that a legal history leads to is sound, and its totals add up.
 pub fn each_history_is_sound<M, R>()
-    ensures sound { (world : M → World) (history : M → List (Entry Note)) (note : Event → R → Note) → AlwaysSound world history note }
-    ensures balanced { (world : M → World) (history : M → List (Entry Note)) (note : Event → R → Note) → AlwaysBalanced world history note }
+    ensures sound { HistoriesAreSound M R }
+    ensures balanced { HistoriesBalance M R }
 {}
 
 /// A load that is ready after a legal history is so, on the same resource with the same picture, after each later one
 /// without its owner's release of it.
 pub fn each_history_keeps_holds<M, R>()
-    ensures { (world : M → World) (history : M → List (Entry Note)) (note : Event → R → Note) → AlwaysHeld world history note }
+    ensures { HistoriesKeepHolds M R }
 {}
