@@ -1,5 +1,4 @@
--- The forms of a line, told by its first word. The language is this project's own; docs/SCRIPT.md tells it
--- whole.
+-- The forms of a line, told by its first word. The language is this project's own.
 use Rattle.std.specs.Prelude.{◌≡◌, ℕ, ◌≤◌, ◌-◌, Bool, true, false, ◌&&◌, ◌==◌, nat_le, nat_lt, nat_eq, List, [], ◌∷◌, length, take, if◌then◌else◌, Some, None, codes, ⊤}
 use Rattle.std.specs.declared.option.Option.{Option}
 use Rattle.std.specs.Option.{option_map, option_map_or, unwrap_or}

@@ -62,10 +62,6 @@ script_from before (Unreadable ∷ lines) = record { commands = []; bad = Some (
 script_from before (Says command ∷ lines) =
     with_first (record { line = before + 1; command = command }) (script_from (before + 1) lines)
 
--- what the lines of a text say, which may have 1,048,576 bytes
-unfoldable pub said_lines : List ℕ → List Line
-said_lines text = lines_within script_limit text
-
--- what a text asks for
+-- what a text asks for, which may have 1,048,576 bytes
 unfoldable pub script_of : List ℕ → Script
 script_of text = script_from 0 (lines_within script_limit text)

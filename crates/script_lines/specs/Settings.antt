@@ -1,6 +1,6 @@
 -- The further words of a load, in any order and at most one of each kind. This project's own; what they mean
 -- is Glide's.
-use Rattle.std.specs.Prelude.{ℕ, true, false, List, [], ◌∷◌, if◌then◌else◌, Some, None, codes}
+use Rattle.std.specs.Prelude.{◌≡◌, ℕ, ◌++◌, true, false, List, [], ◌∷◌, if◌then◌else◌, Some, None, codes}
 use Rattle.std.specs.declared.option.Option.{Option}
 use Rattle.std.specs.Option.{option_map, is_some}
 use Rattle.std.specs.Str.{bytes_eq}
@@ -77,3 +77,8 @@ and_words s (word ∷ words) = further_named word >>= λ said. and_said s said >
 
 abbrev pub settings_of : List (List ℕ) → Option Settings
 settings_of words = and_words no_settings words
+
+-- Two neighbours change places, and the words say the same: they may stand in any order.
+abbrev pub InAnyOrder : Type 0
+InAnyOrder = (before : List (List ℕ)) (a b : List ℕ) (after : List (List ℕ))
+    → settings_of (before ++ a ∷ b ∷ after) ≡ settings_of (before ++ b ∷ a ∷ after)

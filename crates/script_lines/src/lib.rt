@@ -2,6 +2,7 @@
 #![tactic(auto)]
 
 mod commands;
+mod laws;
 mod lines;
 mod pieces;
 mod reader;
@@ -9,6 +10,7 @@ mod settings;
 mod words;
 
 pub use commands::{Command, ScriptFault};
+pub use laws::further_words_in_any_order;
 pub use reader::ScriptReader;
 
 #[cfg(test)]
