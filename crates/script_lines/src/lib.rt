@@ -14,4 +14,6 @@ pub use laws::further_words_in_any_order;
 pub use reader::ScriptReader;
 
 #[cfg(test)]
+mod tests;
+#[cfg(test)]
 mod worked;
