@@ -1,10 +1,14 @@
 // Keys of a disk cache.
 ghost use Rattle.std.specs.Prelude.{◌≡◌, ◌≤◌, true, length, nat_eq};
+ghost use Rattle.std.proofs.Common.{rules};
 ghost use Rattle.std.specs.Cmp.{partial_equiv_from_equiv};
 ghost use Rattle.std.specs.Cmp.Lexicographic.{pointwise, nat_list_eq_equiv};
+ghost use Rattle.std.specs.Cmp.Rules.{hashing};
+ghost use Rattle.std.specs.Hash as fed;
 ghost use Rattle.std.specs.List.{list_all};
 ghost use Rattle.journal_lines.specs.Keys.{is_key_byte, is_key, key_of, padded};
 
+use std::hash::{Hash, Hasher};
 use std::marker::Model;
 
 /// The most bytes that a key has.
@@ -100,4 +104,14 @@ impl PartialEq for Key {
 
 impl Eq for Key {
     ghost laws = { nat_list_eq_equiv };
+}
+
+impl Hash for Key {
+    ghost hash_input = { fed.slice fed.u8 };
+
+    ghost respects_eq = { Prim.search (hashing, rules) };
+
+    fn hash<H: Hasher>(&self, state: &mut H) {
+        self.bytes().hash(state);
+    }
 }
