@@ -1,0 +1,5 @@
+pub mod Apart
+pub mod Entries
+pub mod Known
+pub mod Listed
+pub mod Steps
