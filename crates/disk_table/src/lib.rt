@@ -15,4 +15,6 @@ pub use order::UseOrder;
 pub use table::{DiskTable, EditRefused};
 
 #[cfg(test)]
+mod tests;
+#[cfg(test)]
 mod worked;
