@@ -1,3 +1,10 @@
+pub use Rattle.state_machine.specs.Legal
+pub use Rattle.load_cause.specs.Ends
+pub use Rattle.load_table.specs.Loads
+pub use Rattle.job_table.specs.Jobs
+pub use Rattle.active_resources.specs.Actives
+pub use Rattle.memory_cache.specs.Cache
+pub use Rattle.bitmap_pool.specs.Pool
 pub mod World
 pub mod Places
 pub mod Moves

@@ -12,10 +12,13 @@ use cache_key::Priority;
 // A third load is more than the quota of two; the job of the higher priority starts first, then the other, then none.
 fn worked_priorities()
     ensures low { Transition start 0 (events.Load (spec 1 Priority.Low)) (replies.Started 0) a_loaded }
-    ensures normal { Transition a_loaded 0 (events.Load (spec 2 Priority.Normal)) (replies.Started 1) b_loaded }
+    ensures normal { Transition a_loaded 0 (events.Load (spec 2 Priority.Normal))
+        (replies.Started 1) b_loaded }
     ensures full { Transition b_loaded 0 (events.Load (spec 3 Priority.Normal)) replies.Full b_loaded }
-    ensures higher { Transition b_loaded 1 (events.NextJob empty_spec) (replies.Job 1 (spec 2 Priority.Normal)) b_runs }
-    ensures lower { Transition b_runs 2 (events.NextJob empty_spec) (replies.Job 0 (spec 1 Priority.Low)) both_run }
+    ensures higher { Transition b_loaded 1 (events.NextJob empty_spec)
+        (replies.Job 1 (spec 2 Priority.Normal)) b_runs }
+    ensures lower { Transition b_runs 2 (events.NextJob empty_spec)
+        (replies.Job 0 (spec 1 Priority.Low)) both_run }
     ensures none { Transition both_run 0 (events.NextJob empty_spec) replies.Idle both_run }
 {}
 
@@ -25,8 +28,10 @@ fn worked_both_kinds()
     ensures second { Transition r1 0 (events.Load (of_kind true)) (replies.Started 1) r2 }
     ensures first_runs { Transition r2 1 (events.NextJob empty_spec) (replies.Job 0 (of_kind false)) r3 }
     ensures second_runs { Transition r3 2 (events.NextJob empty_spec) (replies.Job 1 (of_kind true)) r4 }
-    ensures first_takes { Transition r4 1 (events.Take 0 1 1 Config.Argb8888) (replies.Taken (lent 0)) r5 }
-    ensures second_takes { Transition r5 2 (events.Take 1 1 1 Config.Argb8888) (replies.Taken (lent 1)) r6 }
+    ensures first_takes { Transition r4 1 (events.Take 0 1 1 Config.Argb8888)
+        (replies.Taken (lent 0)) r5 }
+    ensures second_takes { Transition r5 2 (events.Take 1 1 1 Config.Argb8888)
+        (replies.Taken (lent 1)) r6 }
 {}
 
 // The second result of the key replaces the first, which stays held. Its release caches it and leaves the other active, which
