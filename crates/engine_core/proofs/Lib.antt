@@ -1,0 +1,2 @@
+pub mod MovedMaps
+pub mod Joins

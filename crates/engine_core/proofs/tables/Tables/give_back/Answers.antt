@@ -1,0 +1,64 @@
+use Rattle.std.proofs.Common.{◌≡◌, ◌≢◌, ℕ, ◌+◌, ◌-◌, ◌<◌, ◌≤◌, [], ◌∷◌, ◌++◌, List, length, map, Some, None, refl, ap, sym, subst, ◌∙◌, arith}
+use Rattle.std.specs.Prelude.{is_some, IsSome}
+use Rattle.std.specs.Option.{option_map}
+use Rattle.std.specs.Ordering.{nat_cmp}
+use Rattle.std.specs.FinMap.{get, insert, remove, nat_cmp-IsAntisymmetric}
+use Rattle.std.proofs.lemmas.Cmp.{nat_cmp_total}
+use Rattle.finite_maps.specs.Maps.{total, map_values, modify}
+use Rattle.finite_maps.specs.MapLaws.{same_Some, modify_there, remove_found, le-total}
+use Rattle.engine_resource.specs.Resource.{ResourceValue}
+use Rattle.resource_table.specs.Resources.{ResourceTableValue}
+use Rattle.load_table.specs.Loads.{LoadsValue}
+use Rattle.load_table.specs.declared.loads.LoadState.TheVariants.{Ready}
+use Rattle.load_cause.specs.declared.causes.Cause.{Cause}
+use Rattle.job_table.specs.Jobs.{JobTableValue}
+use Rattle.bitmap_kind.specs.Picture.{BitmapValue}
+use Rattle.bitmap_pool.specs.Pool.{Group, PoolValue, put_into, pool_put}
+use Rattle.bitmap_pool.specs.Numbered.{numbered}
+use Rattle.memory_cache.specs.Cache.{number_in}
+use Rattle.engine_world.specs.declared.events.NotedReply.TheVariants as notes
+use Rattle.engine_world.specs.World.{Job, Jobs, Resource, Resources, World}
+use Rattle.engine_world.specs.Places.{occurrences}
+use Rattle.engine_world.specs.Moves.{table_job, table_jobs, to_pool, without_lent, take_back}
+use Rattle.engine_world.specs.Steps.{run_on, shape_of, piece_from, shown, shown_by, start_job, give_back}
+use Rattle.engine_core.specs.LiveJobs.{less_lent}
+use Rattle.engine_core.specs.TablesView.{resource_in, world_of, SizesAre}
+use Rattle.engine_core.proofs.MovedMaps.{moved_insert, moved_remove, moved_there, moved_modify, moved_same}
+use Rattle.engine_core.proofs.Joins.{tabled, live_in, queued_live, jobs_ended, out_ended, out_changed, held_there, there, sizes_without, pooled_is, given_is}
+use Rattle.engine_core.proofs.tables.Tables.give_back.Goals as goal
+
+pub overflow_sub-self : goal.overflow_sub-self
+overflow_sub-self c =
+    let is = live_in c.self.inside c.args.self.now c.args.job c.self.view_is c.requires.live in
+    let most : length c.requires.live.job.out ≤ total (λ (j : ℕ) (job : Job). length job.out) c.self.inside.live.value =
+    le-total nat_cmp_total nat_cmp-IsAntisymmetric (λ j job. length job.out) c.self.inside.live.value c.args.job c.requires.live.job is in
+    let one = c.requires.lent c.requires.live.job c.requires.live.there in
+    omega (arith, most, one, c.self.invariant.out)
+
+pub invariant_of-self : goal.invariant_of-self
+invariant_of-self c =
+    let is = live_in c.self.inside c.args.self.now c.args.job c.self.view_is c.requires.live in
+    let changed = out_changed c.self.inside.live.value c.args.job c.requires.live.job (less_lent c.number-number.result) is in
+    let one = c.requires.lent c.requires.live.job c.requires.live.there in
+    let named : length (without_lent c.number-number.result c.requires.live.job.out) ≡ length (without_lent c.args.bitmap.number c.requires.live.job.out) =
+    ap (λ n. length (without_lent n c.requires.live.job.out)) c.number-number.ensures in
+    let less : c.self.inside.out - 1 ≡ total (λ (j : ℕ) (job : Job). length job.out) (modify c.self.inside.live.value c.args.job (less_lent c.number-number.result)) =
+    omega (arith, changed, one, named, c.self.invariant.out) in
+    record {
+      jobs = c.self.invariant.jobs ∙ sym (moved_same nat_cmp_total nat_cmp-IsAntisymmetric table_job c.self.inside.live.value c.args.job c.requires.live.job (less_lent c.number-number.result) is refl)
+          ∙ sym (ap table_jobs c.update_snapshot.ensures);
+      out = less ∙ sym (ap (λ (m : Jobs). total (λ j job. length job.out) m) c.update_snapshot.ensures);
+      counts = c.self.invariant.counts;
+      sizes = c.self.invariant.sizes;
+      seats = c.self.invariant.seats;
+      loads_room = c.self.invariant.loads_room;
+      jobs_room = c.self.invariant.jobs_room;
+      resources_room = c.self.invariant.resources_room;
+      active_room = c.self.invariant.active_room;
+    }
+
+pub returns : goal.returns
+returns c =
+    given_is c.self.inside c.args.job c.requires.live.job c.args.bitmap c.number-number.result c.update_snapshot.new._shot.value c.put.new.self c.numbers_stand_for_bitmaps.ensures.puts c.number-number.ensures
+    (live_in c.self.inside c.args.self.now c.args.job c.self.view_is c.requires.live) c.update_snapshot.ensures c.put.ensures
+    ∙ ap (λ (w : World). give_back w c.args.job c.args.bitmap) c.self.view_is

@@ -1,0 +1,4 @@
+pub mod Conditions
+pub mod LiveJobs
+pub mod Noted
+pub mod TablesView
