@@ -8,3 +8,4 @@ pub mod Licence
 pub mod Realize
 pub mod Tracked
 pub mod ByPlace
+pub mod Totals

@@ -1,5 +1,5 @@
 -- The laws of the walk. They are this project's own.
-use Rattle.std.specs.Prelude.{◌≡◌, ℕ, ◌≤◌, ◌⊎◌, List, [], ◌∷◌, ◌++◌, count_by, take, slice_get, ⊤, Some, None, Err, Result}
+use Rattle.std.specs.Prelude.{◌≡◌, ℕ, ◌+◌, ◌≤◌, ◌⊎◌, List, [], ◌∷◌, ◌++◌, length, count_by, take, slice_get, ⊤, Some, None, Err, Result}
 use Rattle.std.specs.Option.{option_map}
 use Rattle.outside.specs.Content.{Address}
 use Rattle.bitmap_kind.specs.Picture.{Picture}
@@ -34,6 +34,17 @@ EndsDecide = (p o : Outcome) (commands : List Numbered)
 
 abbrev pub TracesAreOrderly : Type 0
 TracesAreOrderly = (outcome : Outcome) (commands : List Numbered) → IsOrderly 0 [] (trace outcome commands)
+
+-- how many begins came to their ends
+abbrev pub ends_in : List TraceEvent → ℕ
+ends_in [] = 0
+ends_in (Ended begin result ∷ events) = 1 + ends_in events
+ends_in (event ∷ events) = ends_in events
+
+-- No more come to their ends than begin: where an end costs a fetch, a begin costs one at most.
+abbrev pub EndsAreBegun : Type 0
+EndsAreBegun = (outcome : Outcome) (commands : List Numbered)
+    → ends_in (walk outcome opening commands).events ≤ length (begins_in (walk outcome opening commands).events)
 
 -- Where the first command that cannot be obeyed is that of line n, a walk is that of the commands before it, and each of
 -- these can be.

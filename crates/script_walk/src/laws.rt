@@ -1,5 +1,5 @@
 // The laws of the walk, each as the contract of a function that does nothing.
-ghost use Rattle.script_walk.specs.Laws.{NoMarksNoFailures, EndsDecide, TracesAreOrderly, StopsAtBadCommand, WalksGoOn, RunsAreWalks};
+ghost use Rattle.script_walk.specs.Laws.{NoMarksNoFailures, EndsDecide, TracesAreOrderly, EndsAreBegun, StopsAtBadCommand, WalksGoOn, RunsAreWalks};
 ghost use Rattle.script_walk.specs.Tracked.{TrackerMakesTheMoves};
 ghost use Rattle.script_walk.specs.ByPlace.{MovesGoByPlace};
 
@@ -16,6 +16,11 @@ pub fn ends_decide_the_walk()
 /// Begins are numbered in order and end with the script, each is dropped once, and no more than 4,096 are there at a time.
 pub fn traces_are_orderly()
     ensures { TracesAreOrderly }
+{}
+
+/// No more begins come to their ends than are made.
+pub fn no_more_ends_than_begins()
+    ensures { EndsAreBegun }
 {}
 
 /// A walk stops just at the first command that cannot be obeyed, and is that of the commands before it.
