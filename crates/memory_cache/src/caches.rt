@@ -126,6 +126,13 @@ impl Cache {
         self.give_up(goes)
     }
 
+    /// Its numbers with their sizes, the most recent first.
+    pub fn items(&self) -> &[(u64, u64)]
+        ensures { result.now ≡ self.now.items }
+    {
+        &self.items
+    }
+
     /// Sets the maximum. No item goes until `over` is called.
     pub fn set_max(&mut self, maximum: u64)
         ensures { self.new ≡ record self.old { maximum = maximum } }

@@ -23,6 +23,7 @@ fn gives_up_the_eldest(rt: HostRuntime) -> Result<(), Fail> {
     assert!(rt; put_anew(&mut cache, 1, 396));
     assert_eq!(rt; cache.over(), None);
     assert!(rt; put_anew(&mut cache, 2, 100));
+    assert_eq!(rt; cache.items(), [(2, 100), (1, 396)].as_slice());
     assert_eq!(rt; cache.over(), Some(1));
     assert_eq!(rt; cache.over(), None);
     assert!(rt; !cache.remove(1));
