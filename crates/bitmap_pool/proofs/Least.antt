@@ -1,14 +1,13 @@
 -- The least size so far, and of those that are left.
 use Rattle.std.proofs.Common.{◌≡◌, ℕ, ◌*◌, ◌<◌, ◌≤◌, true, false, cond, ltb, leb, List, ◌∷◌, Some, None, Option, refl, ap, sym, ◌∙◌, arith}
 use Rattle.std.specs.Prelude.{min, not, ◌&&◌, IfSome}
-use Rattle.std.proofs.lemmas.Bool.{ltb-true, ltb-false, leb-true}
+use Rattle.std.proofs.lemmas.Bool.{ltb-true, ltb-false, leb-true, and_parts}
 use Rattle.bitmap_kind.specs.declared.bitmaps.Config.{Config}
 use Rattle.bitmap_kind.specs.Picture.{BitmapValue}
 use Rattle.cache_key.specs.Key.{same_config}
 use Rattle.bitmap_pool.specs.Pool.{least_with, least_size}
 use Rattle.bitmap_pool.specs.declared.groups.GroupKey.{GroupKey}
 use Rattle.bitmap_pool.specs.inside.GroupsView.{serves, groups_of}
-use Rattle.bitmap_pool.proofs.Stored.{and_left, and_right}
 use Rattle.bitmap_pool.proofs.Steps.{bare_is}
 
 -- the lesser of two, where there are two
@@ -40,7 +39,7 @@ abbrev pub IsWithin : ℕ → Option ℕ → Type 0
 IsWithin w least = IfSome least (λ size. (w ≤ size) × (size ≤ 8 * w))
 
 serves_within : (c : Config) (w : ℕ) (bs : List BitmapValue) (k : GroupKey) → serves c w bs k ≡ true → (w ≤ k.size) × (k.size ≤ 8 * w)
-serves_within c w bs k e = (leb-true _ _ (and_right _ _ (and_left _ _ e)), leb-true _ _ (and_right _ _ e))
+serves_within c w bs k e = let all = and_parts _ _ e in (leb-true _ _ (and_parts _ _ all.0).1, leb-true _ _ all.1)
 
 lesser_within : (w s : ℕ) (least : Option ℕ) → (w ≤ s) × (s ≤ 8 * w) → IsWithin w least → IsWithin w (Some (least_with s least))
 lesser_within w s None here there = here

@@ -2,42 +2,19 @@
 use Rattle.std.proofs.Common.{◌≡◌, ℕ, Bool, true, false, cond, eqb, List, [], ◌∷◌, ◌++◌, refl, ap, sym, ◌∙◌}
 use Rattle.std.specs.Prelude.{◌||◌, ◌&&◌, filter}
 use Rattle.std.specs.List.{list_any}
-use Rattle.std.proofs.lemmas.Bool.{eqb-true, eq-eqb}
+use Rattle.std.proofs.lemmas.Bool.{eqb-true, eq-eqb, and_parts}
 use Rattle.bitmap_kind.specs.declared.bitmaps.Config.{Config}
 use Rattle.bitmap_kind.specs.declared.bitmaps.Config.TheVariants.{Argb8888, Rgb565, Alpha8}
 use Rattle.bitmap_kind.specs.Picture.{BitmapValue}
 use Rattle.cache_key.specs.Key.{same_config}
+use Rattle.cache_key.specs.ConfigLaws.{config_is, config_itself}
 use Rattle.bitmap_pool.specs.Pool.{Group, has_group, without_last, add_last}
 use Rattle.bitmap_pool.specs.declared.groups.GroupKey.{GroupKey}
 use Rattle.bitmap_pool.specs.inside.GroupsView.{is_key, has_key, is_of, group_of, groups_of, KeysApart, ArePlaced}
 use Rattle.bitmap_pool.proofs.Lasts.{or_left, or_right, filter_none, filter_other}
 
-pub and_left : (a b : Bool) → (a && b) ≡ true → a ≡ true
-and_left true b e = refl
-and_left false b e = e
-
-pub and_right : (a b : Bool) → (a && b) ≡ true → b ≡ true
-and_right true b e = e
-and_right false b e = cc
-
 pub clash : {P : Type 0} (b : Bool) → b ≡ true → b ≡ false → P
 clash b t f = let no : true ≡ false = sym t ∙ f in cc
-
-config_is : (a b : Config) → same_config a b ≡ true → a ≡ b
-config_is Argb8888 Argb8888 e = refl
-config_is Argb8888 Rgb565 e = cc
-config_is Argb8888 Alpha8 e = cc
-config_is Rgb565 Argb8888 e = cc
-config_is Rgb565 Rgb565 e = refl
-config_is Rgb565 Alpha8 e = cc
-config_is Alpha8 Argb8888 e = cc
-config_is Alpha8 Rgb565 e = cc
-config_is Alpha8 Alpha8 e = refl
-
-config_itself : (a : Config) → same_config a a ≡ true
-config_itself Argb8888 = refl
-config_itself Rgb565 = refl
-config_itself Alpha8 = refl
 
 pub same_itself : (s : ℕ) (c : Config) → (eqb s s && same_config c c) ≡ true
 same_itself s c = ap (λ t. t && same_config c c) (eq-eqb s s refl) ∙ config_itself c
@@ -45,10 +22,10 @@ same_itself s c = ap (λ t. t && same_config c c) (eq-eqb s s refl) ∙ config_i
 -- ---- sizes and configs
 
 pub key_is : (s : ℕ) (c : Config) (k : GroupKey) → is_key s c k ≡ true → (k.size ≡ s) × (k.config ≡ c)
-key_is s c k e = (eqb-true _ _ (and_left _ _ e), config_is _ _ (and_right _ _ e))
+key_is s c k e = (eqb-true _ _ (and_parts _ _ e).0, config_is _ _ (and_parts _ _ e).1)
 
 pub bitmap_is : (s : ℕ) (c : Config) (b : BitmapValue) → is_of s c b ≡ true → (s ≡ b.allocation) × (c ≡ b.picture.config)
-bitmap_is s c b e = (eqb-true _ _ (and_left _ _ e), config_is _ _ (and_right _ _ e))
+bitmap_is s c b e = (eqb-true _ _ (and_parts _ _ e).0, config_is _ _ (and_parts _ _ e).1)
 
 -- a bitmap of one group is of no other
 pub not_of : (s : ℕ) (c : Config) (k : GroupKey) → is_key s c k ≡ false → (b : BitmapValue) → is_of s c b ≡ true → is_of k.size k.config b ≡ false

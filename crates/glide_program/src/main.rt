@@ -1,5 +1,5 @@
-// Obeys the script on standard input, with the pictures of the folder `images`, and writes what the views show to
-// standard output.
+// Obeys the script on standard input, with the pictures of the folder `images`, and writes what the views
+// show to standard output.
 #![tactic(auto)]
 
 ghost use Rattle.std.specs.Prelude.{◌≡◌, ◌≢◌, ◌≤◌, [], Err, IfOk};
@@ -30,7 +30,8 @@ fn run(rt: &HostRuntime, words: &[&str]) -> u8
     glide_alone(rt.alloc(), words, &mut input, &mut out, &mut source, ()).status
 }
 
-// The same with words of their own memory. While the program takes no words, the first alone says that they are refused.
+// The same with words of their own memory. While the program takes no words, the first alone says that
+// they are refused.
 fn run_words(rt: &HostRuntime, words: &[String]) -> u8
     ensures known { result ≤ 6 }
     ensures refused { words.now ≢ [] → IsOrStops 2 result }
@@ -41,7 +42,8 @@ fn run_words(rt: &HostRuntime, words: &[String]) -> u8
     }
 }
 
-// The same, or the status where the words are not there. Words that cannot be read stand for one that is refused.
+// The same, or the status where the words are not there. Words that cannot be read stand for one that is
+// refused.
 fn status_of(rt: &HostRuntime, words: Result<Vec<String>, WordsFault>) -> u8
     ensures known { result ≤ 6 }
     ensures refused { IfOk words (λ words. words.items ≢ [] → IsOrStops 2 result) }

@@ -16,7 +16,7 @@ use Rattle.image_format.specs.Pictures.{picture_of}
 use Rattle.glide_run.specs.Views.{State, Running, Complete, Failed, Seen, decoded, fetched, names_of, has_name, with_name, named, put_view}
 use Rattle.glide_run.specs.Printed.{Form, Pixels, Digest, PrintedLine, lines_as, lines_text, run_text, says_failed, says_failed_source, blames_source}
 use Rattle.glide_run.specs.Walk.{bad_line_from, bad_line, walk, output, status_of, IsLicensed}
-use Rattle.glide_run.specs.Effects.{Gains, WritesFront}
+use Rattle.glide_run.specs.Effects.{Gains, WritesPrefix}
 use Rattle.glide_run.specs.Run.{failures_of, fetch_state, SettlesAt, Gathers, Step, Run}
 use Rattle.glide_run.specs.Obeying.{IsBadNext, EndsAt, ScriptGives}
 use Rattle.glide_run.specs.Ending.{IsWalk, IsShown, IsOrStops, ending_text, bad_status, ended_status}
@@ -204,7 +204,7 @@ ended_as wanted status (inr (inr e)) le = absurd (omega arith)
 
 -- what was written at the end of a script
 ended_text : (content : Option Contents) (opened : Option (List Command)) (ended : Ended) (status : ℕ) (wo w wn : Option (List ℕ)) (fo fn : List Address) (b n : ℕ) (s : ScriptGives content opened (Ok ended) wo w fo fn b n)
-    → WritesFront w wn (ending_text ended.bad) (status ≤ 3) → WritesFront wo wn (run_text s.lines ended.bad) (status ≤ 3)
+    → WritesPrefix w wn (ending_text ended.bad) (status ≤ 3) → WritesPrefix wo wn (run_text s.lines ended.bad) (status ≤ 3)
 ended_text content opened ended status wo w wn fo fn b n s last =
     wrote_as wo wn (lines_text s.lines ++ ending_text ended.bad) (run_text s.lines ended.bad) (status ≤ 3) (sym (all_text s.lines ended.bad)) (wrote_more wo w wn (lines_text s.lines) (ending_text ended.bad) (status ≤ 3) (wrote_all wo w (lines_text s.lines) _ s.wrote refl) last)
 
@@ -212,9 +212,9 @@ ended_is : (content : Option Contents) (opened : Option (List Command)) (ended :
     → IsOrStops (ended_status ended) status → status ≤ 3 → status ≡ status_of s.lines ended.bad
 ended_is content opened ended status wo w fo fn b n s stops le = ended_as (ended_status ended) status stops le ∙ status_is_ended ended.bad ended.failing s.lines s.end.0
 
--- A script was obeyed, and what is said at its end was written, or a front of it.
+-- A script was obeyed, and what is said at its end was written, or a prefix of it.
 pub shown_ended : (content : Option Contents) (opened : Option (List Command)) (ended : Ended) (status : ℕ) (wo w wn : Option (List ℕ)) (fo fn : List Address) (b n : ℕ)
-    → ScriptGives content opened (Ok ended) wo w fo fn b n → IsOrStops (ended_status ended) status → WritesFront w wn (ending_text ended.bad) (status ≤ 3) → IsShown content opened status wo wn b n
+    → ScriptGives content opened (Ok ended) wo w fo fn b n → IsOrStops (ended_status ended) status → WritesPrefix w wn (ending_text ended.bad) (status ≤ 3) → IsShown content opened status wo wn b n
 shown_ended content opened ended status wo w wn fo fn b n s stops last = record {
   done = s.done;
   left = s.left;
@@ -222,7 +222,7 @@ shown_ended content opened ended status wo w wn fo fn b n s stops last = record 
   failed = s.failed;
   views = s.views;
   bad = ended.bad;
-  told = s.told;
+  known = s.known;
   run = s.run;
   bad_is = λ le. sym (bad_is_line content s.done s.left s.lines s.failed s.views ended.bad s.run s.end.1);
   written = ended_text content opened ended status wo w wn fo fn b n s last;
@@ -243,10 +243,10 @@ shown_stopped content opened stop status wo wn fo fn b n s past = record {
   failed = s.failed;
   views = s.views;
   bad = None;
-  told = s.told;
+  known = s.known;
   run = s.run;
   bad_is = λ le. absurd (past_three status past le);
-  written = record { front = s.wrote.front; rest = s.wrote.rest; parts = s.wrote.parts; added = s.wrote.added; all = λ le. absurd (past_three status past le) };
+  written = record { prefix = s.wrote.prefix; rest = s.wrote.rest; parts = s.wrote.parts; added = s.wrote.added; all = λ le. absurd (past_three status past le) };
   status_is = λ le. absurd (past_three status past le);
   caused = λ blamed. s.gains.caused (run_blames content s.done s.lines s.failed s.more s.views s.run blamed);
 }
@@ -263,18 +263,18 @@ licence : (marks : List Bool) (all : List Command) (failed more : List Address) 
 licence marks all failed more unmarked le = λ address. licensed_at address marks all (failed ++ more) (omega (arith, le address, count-append address failed more))
 
 pub walk_ended : (texts : Contents) (all : List Command) (ended : Ended) (status : ℕ) (wo w wn : Option (List ℕ)) (fo fn : List Address) (b n : ℕ)
-    → ScriptGives (Some texts) (Some all) (Ok ended) wo w fo fn b n → IsOrStops (ended_status ended) status → WritesFront w wn (ending_text ended.bad) (status ≤ 3) → IsWalk texts all status wo wn fo fn b n
+    → ScriptGives (Some texts) (Some all) (Ok ended) wo w fo fn b n → IsOrStops (ended_status ended) status → WritesPrefix w wn (ending_text ended.bad) (status ≤ 3) → IsWalk texts all status wo wn fo fn b n
 walk_ended texts all ended status wo w wn fo fn b n s stops last =
     let real = realize texts s.done s.left [] s.lines s.failed s.views s.run in
     let walked : walk texts real.1 [] all ≡ s.lines =
-    ap (walk texts real.1 []) s.told ∙ real.2 ∙ ap (λ l. s.lines ++ l) (nothing_left texts ended.bad s.done s.left s.views s.end.1) ∙ append-nil s.lines in
-    let bad : bad_line all ≡ ended.bad = ap bad_line s.told ∙ bad_is_line (Some texts) s.done s.left s.lines s.failed s.views ended.bad s.run s.end.1 in
+    ap (walk texts real.1 []) s.known ∙ real.2 ∙ ap (λ l. s.lines ++ l) (nothing_left texts ended.bad s.done s.left s.views s.end.1) ∙ append-nil s.lines in
+    let bad : bad_line all ≡ ended.bad = ap bad_line s.known ∙ bad_is_line (Some texts) s.done s.left s.lines s.failed s.views ended.bad s.run s.end.1 in
     record {
       marks = real.1;
       failed = s.failed ++ s.more;
       failed_is = recorded_as texts fo fn b n (s.failed ++ s.more) s.gains;
       caused = s.gains.caused;
-      licensed = subst (λ l. IsLicensed real.1 l (s.failed ++ s.more)) (sym s.told) (licence real.1 (s.done ++ s.left) s.failed s.more (marked_failures [] real.0) real.3);
+      licensed = subst (λ l. IsLicensed real.1 l (s.failed ++ s.more)) (sym s.known) (licence real.1 (s.done ++ s.left) s.failed s.more (marked_failures [] real.0) real.3);
       written = wrote_as wo wn (run_text s.lines ended.bad) (output texts real.1 all) (status ≤ 3) (sym (λ i. run_text (walked i) (bad i))) (ended_text (Some texts) (Some all) ended status wo w wn fo fn b n s last);
       status_is = λ le. ended_is (Some texts) (Some all) ended status wo w fo fn b n s stops le ∙ sym (λ i. status_of (walked i) (bad i));
     }
@@ -289,7 +289,7 @@ pub walk_stopped : (texts : Contents) (all : List Command) (stop : Stop) (status
 walk_stopped texts all stop status wo wn fo fn b n s past =
     let real = realize texts s.done s.left [] s.lines s.failed s.views s.run in
     let rest = walk texts [] (with_marks s.views []) s.left in
-    let walked : walk texts real.1 [] all ≡ s.lines ++ rest = ap (walk texts real.1 []) s.told ∙ real.2 in
+    let walked : walk texts real.1 [] all ≡ s.lines ++ rest = ap (walk texts real.1 []) s.known ∙ real.2 in
     let text : output texts real.1 all ≡ lines_text s.lines ++ (lines_text rest ++ ending_text (bad_line all)) =
     ap (λ l. run_text l (bad_line all)) walked ∙ text_from s.lines rest (bad_line all) in
     record {
@@ -297,7 +297,7 @@ walk_stopped texts all stop status wo wn fo fn b n s past =
       failed = s.failed ++ s.more;
       failed_is = recorded_as texts fo fn b n (s.failed ++ s.more) s.gains;
       caused = s.gains.caused;
-      licensed = subst (λ l. IsLicensed real.1 l (s.failed ++ s.more)) (sym s.told) (licence real.1 (s.done ++ s.left) s.failed s.more (marked_failures [] real.0) real.3);
+      licensed = subst (λ l. IsLicensed real.1 l (s.failed ++ s.more)) (sym s.known) (licence real.1 (s.done ++ s.left) s.failed s.more (marked_failures [] real.0) real.3);
       written = wrote_as wo wn (lines_text s.lines ++ (lines_text rest ++ ending_text (bad_line all))) (output texts real.1 all) (status ≤ 3) (sym text)
           (wrote_less wo wn (lines_text s.lines) (lines_text rest ++ ending_text (bad_line all)) _ (status ≤ 3) s.wrote (λ le. absurd (past_three status past le)));
       status_is = λ le. absurd (past_three status past le);
@@ -305,5 +305,5 @@ walk_stopped texts all stop status wo wn fo fn b n s past =
 
 pub gives_as : (a content : Option Contents) (o opened : Option (List Command)) (result : Result Ended Stop) (wo wn : Option (List ℕ)) (fo fn : List Address) (b n : ℕ) → a ≡ content → o ≡ opened
     → ScriptGives a o result wo wn fo fn b n → ScriptGives content opened result wo wn fo fn b n
-gives_as a content o opened result wo wn fo fn b n same told s =
-    subst (λ x. ScriptGives x opened result wo wn fo fn b n) same (subst (λ x. ScriptGives a x result wo wn fo fn b n) told s)
+gives_as a content o opened result wo wn fo fn b n same known s =
+    subst (λ x. ScriptGives x opened result wo wn fo fn b n) same (subst (λ x. ScriptGives a x result wo wn fo fn b n) known s)

@@ -56,7 +56,7 @@ seen_more xs i v lt e = ap views_by (take_more xs i v lt) ∙ map-append view_by
 pub seen_more_set : (xs : List code_view.View) (i : ℕ) (w : code_view.View) → i < length xs → views_by (take (i + 1) (set xs i w)) ≡ views_by (take i xs) ++ view_by w ∷ []
 seen_more_set xs i w lt = ap views_by (take_more_set xs i w lt) ∙ map-append view_by (take i xs) (w ∷ [])
 
--- what stands at the front of equal rests
+-- what stands at the prefix of equal rests
 pub same_front : (xs ys : List code_view.View) (i : ℕ) (d : code_view.View) → drop i xs ≡ drop i ys → get_or xs i d ≡ get_or ys i d
 same_front xs ys i d e = ap (λ k. get_or xs k d) (sym (add-zero i)) ∙ sym (get_or-drop i xs 0 d) ∙ ap (λ l. get_or l 0 d) e ∙ get_or-drop i ys 0 d ∙ ap (λ k. get_or ys k d) (add-zero i)
 
@@ -89,10 +89,10 @@ running-more (x ∷ xs) ys = omega (arith, running-more xs ys)
 pub running_front : (xs : List code_view.View) (i : ℕ) (v : code_view.View) → i < length xs → v ≡ get_or xs i v → running_in (views_by (take i xs)) + running_at (view_by v).state ≤ running_in (views_by xs)
 running_front xs i v lt e =
     let whole : views_by xs ≡ views_by (take (i + 1) xs) ++ views_by (drop (i + 1) xs) = ap views_by (sym (take-append-drop (i + 1) xs)) ∙ map-append view_by (take (i + 1) xs) (drop (i + 1) xs) in
-    let front = ap running_in (seen_more xs i v lt e) ∙ running-append (views_by (take i xs)) (view_by v) in
-    omega (arith, ap running_in whole, running-more (views_by (take (i + 1) xs)) (views_by (drop (i + 1) xs)), front)
+    let prefix = ap running_in (seen_more xs i v lt e) ∙ running-append (views_by (take i xs)) (view_by v) in
+    omega (arith, ap running_in whole, running-more (views_by (take (i + 1) xs)) (views_by (drop (i + 1) xs)), prefix)
 
--- what a content has, if it is told
+-- what a content has, if it is known
 pub some_answer : (content : Option Contents) (address : Address) → (answer : Option (List ℕ)) × IfSome content (λ texts. answer ≡ get texts address)
 some_answer None address = (None, tt)
 some_answer (Some texts) address = (get texts address, refl)
@@ -112,7 +112,7 @@ gains_failed V content fo fn a b before now fault e same recorded later rose =
 pub gains_fine : (content : Option Contents) (fo fn : List Address) (before now : ℕ) → OnSome content (fn ≡ fo ++ []) → before ≤ now → Gains content fo fn before now []
 gains_fine content fo fn before now recorded later = record { recorded = recorded; later = later; caused = λ some. absurd (some refl) }
 
-pub told_text : {V : Type 0} (bytes : V → List ℕ) (content : Option Contents) (a b : Address) (found : Option V) (v : V) → found ≡ Some v → a ≡ b → Answers bytes content a (Ok found)
+pub known_text : {V : Type 0} (bytes : V → List ℕ) (content : Option Contents) (a b : Address) (found : Option V) (v : V) → found ≡ Some v → a ≡ b → Answers bytes content a (Ok found)
     → IfSome content (λ texts. Some (bytes v) ≡ get texts b)
-told_text bytes None a b found v e same answer = tt
-told_text bytes (Some texts) a b found v e same answer = ap (option_map bytes) (sym e) ∙ answer ∙ ap (get texts) same
+known_text bytes None a b found v e same answer = tt
+known_text bytes (Some texts) a b found v e same answer = ap (option_map bytes) (sym e) ∙ answer ∙ ap (get texts) same

@@ -93,8 +93,8 @@ front_none room line e =
 -- more bytes than a script may have, with no line feed among those
 pub too_far : (room : ℕ) (line more : List ℕ) → has_line_feed line ≡ false → room ≤ length line → room < length (line ++ more) → BeginsBad (commands_within room (line ++ more))
 too_far room line more e long past =
-    let front : take room (line ++ more) ≡ take room line = take-append-le room line more long in
-    let none : ended_lines (take room (line ++ more)) ≡ [] = ap ended_lines front ∙ ended-none (take room line) (front_none room line e) in (
+    let prefix : take room (line ++ more) ≡ take room line = take-append-le room line more long in
+    let none : ended_lines (take room (line ++ more)) ≡ [] = ap ended_lines prefix ∙ ended-none (take room line) (front_none room line e) in (
       [],
       ap (λ t. cond t (map line_command (lines_of (line ++ more))) (map line_command (ended_lines (take room (line ++ more))) ++ Bad ∷ [])) (le_false (length (line ++ more)) room past)
           ∙ ap (λ l. map line_command l ++ Bad ∷ []) none,

@@ -12,7 +12,7 @@ use Rattle.image_format.specs.declared.refusal.Refusal.{Refusal}
 use Rattle.image_format.specs.Pictures.{picture_of}
 use Rattle.glide_run.specs.Views.{State, Running, Complete, Failed, Seen, decoded, fetched, names_of, has_name, named, put_view}
 use Rattle.glide_run.specs.Printed.{Pixels, line_as, lines_as, line_text, lines_text}
-use Rattle.glide_run.specs.Effects.{Gains, WritesFront}
+use Rattle.glide_run.specs.Effects.{Gains, WritesPrefix}
 use Rattle.glide_run.specs.Run.{fetch_state, SettlesAt, Gathers, running_at, running_in}
 use Rattle.glide_run.specs.Obeying.{LoadGives, Done, Stopped}
 use Rattle.glide_run.proofs.Gathers.{gains_none, names-gathered}
@@ -70,16 +70,16 @@ done_load content command can name key old new w f n e granted p =
 pub stopped_before : (content : Option Contents) (command : Command) (views : List Seen) (w : Option (List ℕ)) (f : List Address) (n : ℕ) → Stopped content command views w w f f n n
 stopped_before content command views w f n = record { failed = []; gains = gains_none content f n; torn = inl (Appends-nil w) }
 
--- a front of a line was written, behind a gather
+-- a prefix of a line was written, behind a gather
 pub stopped_torn : (content : Option Contents) (name : List ℕ) (old new : List Seen) (view : Seen) (wo wn : Option (List ℕ)) (fo fn f : List Address) (before now : ℕ) (whole : Type 0)
-    → has_name name (names_of old) ≡ true → Gathers content old f new → named name new ≡ view ∷ [] → Gains content fo fn before now f → WritesFront wo wn (line_text (line_as Pixels view)) whole → Stopped content (Dump name) old wo wn fo fn before now
+    → has_name name (names_of old) ≡ true → Gathers content old f new → named name new ≡ view ∷ [] → Gains content fo fn before now f → WritesPrefix wo wn (line_text (line_as Pixels view)) whole → Stopped content (Dump name) old wo wn fo fn before now
 stopped_torn content name old new view wo wn fo fn f before now whole has gathers found gains wrote =
     let line = line_as Pixels view in
     let w = wrote_as wo wn (line_text line) (lines_text (line ∷ [])) whole (sym (one_line line)) wrote in
     record {
       failed = f;
       gains = gains;
-      torn = inr (line ∷ [], new, (has, gathers, sym (ap (lines_as Pixels) found)), record { front = w.front; rest = w.rest; parts = w.parts; added = w.added; all = λ e. absurd e });
+      torn = inr (line ∷ [], new, (has, gathers, sym (ap (lines_as Pixels) found)), record { prefix = w.prefix; rest = w.rest; parts = w.parts; added = w.added; all = λ e. absurd e });
     }
 
 pub was_named : {X : Type 0} (found : Option X) (has : Bool) (Q : X → Type 0) → MatchOption found (has ≡ false) (λ v. (has ≡ true) × Q v) → is_some found ≡ true → has ≡ true

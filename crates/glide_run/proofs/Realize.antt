@@ -12,7 +12,8 @@ use Rattle.cache_key.specs.Key.{Key}
 use Rattle.glide_run.specs.Script.{Command, Nothing, Bad, Load, Dump, Show}
 use Rattle.image_format.specs.declared.refusal.Refusal.{Refusal}
 use Rattle.image_format.specs.Pictures.{picture_of}
-use Rattle.glide_run.specs.Views.{State, Running, Complete, Failed, View, Seen, seen, seen_state, address_of, decoded, fetched, names_of, has_name, can_name, named, put_view}
+use Rattle.glide_run.specs.Views.{State, Running, Complete, Failed, View, Seen, seen, seen_state, decoded, fetched, names_of, has_name, can_name, named, put_view}
+use Rattle.cache_key.specs.KeyBytes.{address_of}
 use Rattle.glide_run.specs.Printed.{Pixels, Digest, PrintedLine, lines_as}
 use Rattle.glide_run.specs.Walk.{first_mark, other_marks, settled_state, settled, gathered, walk, same_address, same_begin, marked_begins, distinct, begins_at}
 use Rattle.glide_run.specs.Run.{failures_of, fetch_state, SettlesAt, Gathers, Run}
@@ -137,7 +138,7 @@ settle_marks texts (Running note) v w f e p =
       fails,
       λ b.
           let state : settled_state texts v.key (mark_state v.state fails) ≡ mark_state w.state b =
-          ap (λ s. settled_state texts v.key (mark_state s fails)) e ∙ sym (ap (λ s. mark_state s b) p.1.state_is ∙ fetch_rests texts v.key fails p.1.answer b p.1.told) in
+          ap (λ s. settled_state texts v.key (mark_state s fails)) e ∙ sym (ap (λ s. mark_state s b) p.1.state_is ∙ fetch_rests texts v.key fails p.1.answer b p.1.known) in
           λ i. record { name = sym (ap (λ (x : Seen). x.name) p.0) i; key = sym (ap (λ (x : Seen). x.key) p.0) i; state = state i },
       ap (λ s. view_failures s v.key fails) e ∙ sym p.1.failed_is,
     )

@@ -18,7 +18,7 @@ use Rattle.glide_run.specs.Script.{Command, Nothing, Bad, Load, Dump, Show, line
 use Rattle.glide_run.specs.Views.{Seen}
 use Rattle.glide_run.specs.Printed.{PrintedLine, lines_text, says_failed}
 use Rattle.glide_run.specs.Walk.{begins_in}
-use Rattle.glide_run.specs.Effects.{Gains, WritesFront}
+use Rattle.glide_run.specs.Effects.{Gains, WritesPrefix}
 use Rattle.glide_run.specs.Run.{Step, IsBad, Run, running_in, begin_in}
 use Rattle.glide_run.specs.Reading.{IsNext, NextGives}
 use Rattle.glide_run.specs.Obeying.{Done, LineGives, Stopped, IsSplit, ScriptGives}
@@ -71,7 +71,7 @@ pub record SoFar (content : Option Contents) (opened before : Option (List Comma
   pub lines : List PrintedLine
   pub failed : List Address
   pub run : Run content [] done lines failed views
-  pub told : IsSplit opened done before
+  pub known : IsSplit opened done before
   pub number_is : number ≡ length done
   pub wrote : Appends wo wn (lines_text lines)
   pub gains : Gains content fo fn b n failed
@@ -93,7 +93,7 @@ so_far_start content opened before views w f n t e none = record {
   lines = [];
   failed = [];
   run = (refl, refl, none);
-  told = subst (IsSplit opened []) (sym e) (split_start opened);
+  known = subst (IsSplit opened []) (sym e) (split_start opened);
   number_is = refl;
   wrote = Appends-nil w;
   gains = gains_none content f n;
@@ -119,7 +119,7 @@ so_far_more content opened before after number failing more command views new wo
   lines = p.lines ++ d.lines;
   failed = p.failed ++ d.failed;
   run = run_more content p.done command [] views new p.lines d.lines p.failed d.failed p.run d.step;
-  told = split_more opened before after p.done command p.told next;
+  known = split_more opened before after p.done command p.known next;
   number_is = omega (arith, p.number_is, length-append p.done (command ∷ []));
   wrote = subst (Appends wo wn) (sym (lines-append p.lines d.lines)) (Appends-trans wo w wn (lines_text p.lines) (lines_text d.lines) p.wrote d.wrote);
   gains = gains_more content fo f fn p.failed d.failed b m n p.gains d.gains;
@@ -129,7 +129,7 @@ so_far_more content opened before after number failing more command views new wo
 
 -- ---- ends
 
--- the commands that are left, where they are told
+-- the commands that are left, where they are known
 left_of : Option (List Command) → List Command
 left_of None = []
 left_of (Some left) = left
@@ -140,7 +140,7 @@ split_left None before done p = tt
 split_left (Some all) None done p = absurd p
 split_left (Some all) (Some left) done p = p
 
--- a next command is left, whether commands are told or not
+-- a next command is left, whether commands are known or not
 abbrev pub HasNext : Option (List Command) → Command → Type 0
 HasNext before command = IfSome before (λ commands. (rest : List Command) × (commands ≡ command ∷ rest))
 
@@ -178,7 +178,7 @@ ends_done content opened before number failing views wo wn fo fn b n to tn p non
   failed = p.failed;
   more = [];
   views = views;
-  told = split_whole opened before p.done none p.told;
+  known = split_whole opened before p.done none p.known;
   run = p.run;
   gains = gains_only content fo fn p.failed b n p.gains;
   wrote = wrote_exactly wo wn (lines_text p.lines) _ p.wrote;
@@ -196,7 +196,7 @@ ends_bad content opened before number failing command views wo w wn fo f fn b m 
   failed = p.failed;
   more = [];
   views = views;
-  told = split_next opened before p.done command next p.told;
+  known = split_next opened before p.done command next p.known;
   run = p.run;
   gains = gains_more content fo f fn p.failed [] b m n p.gains gains;
   wrote = wrote_exactly wo wn (lines_text p.lines) _ (subst (Appends wo wn) (append-nil (lines_text p.lines)) (Appends-trans wo w wn (lines_text p.lines) [] p.wrote none));
@@ -213,7 +213,7 @@ ends_before content opened before number failing stop views wo wn fo fn b n to t
   failed = p.failed;
   more = [];
   views = views;
-  told = split_left opened before p.done p.told;
+  known = split_left opened before p.done p.known;
   run = p.run;
   gains = gains_only content fo fn p.failed b n p.gains;
   wrote = wrote_exactly wo wn (lines_text p.lines) _ p.wrote;
@@ -222,7 +222,7 @@ ends_before content opened before number failing stop views wo wn fo fn b n to t
 
 torn_end : (content : Option Contents) (opened before : Option (List Command)) (number : ℕ) (failing : Bool) (stop : Stop) (command : Command) (views : List Seen) (wo w wn : Option (List ℕ)) (fo f fn g : List Address) (b m n to t : ℕ)
     → SoFar content opened before number failing views wo w fo f b m to t → HasNext before command → Gains content f fn m n g
-    → Appends w wn [] ⊎ ((lines : List PrintedLine) × (new : List Seen) × Step content views command lines g new × WritesFront w wn (lines_text lines) ⊥) → ScriptGives content opened (Err stop) wo wn fo fn b n
+    → Appends w wn [] ⊎ ((lines : List PrintedLine) × (new : List Seen) × Step content views command lines g new × WritesPrefix w wn (lines_text lines) ⊥) → ScriptGives content opened (Err stop) wo wn fo fn b n
 torn_end content opened before number failing stop command views wo w wn fo f fn g b m n to t p next gains (inl none) = record {
   done = p.done;
   left = command ∷ rest_of before command next;
@@ -230,14 +230,14 @@ torn_end content opened before number failing stop command views wo w wn fo f fn
   failed = p.failed;
   more = g;
   views = views;
-  told = split_next opened before p.done command next p.told;
+  known = split_next opened before p.done command next p.known;
   run = p.run;
   gains = gains_more content fo f fn p.failed g b m n p.gains gains;
   wrote = wrote_exactly wo wn (lines_text p.lines) _ (subst (Appends wo wn) (append-nil (lines_text p.lines)) (Appends-trans wo w wn (lines_text p.lines) [] p.wrote none));
   end = tt;
 }
 torn_end content opened before number failing stop command views wo w wn fo f fn g b m n to t p next gains (inr torn) =
-    let front = wrote_more wo w wn (lines_text p.lines) (lines_text torn.0) ⊥ p.wrote torn.3 in
+    let prefix = wrote_more wo w wn (lines_text p.lines) (lines_text torn.0) ⊥ p.wrote torn.3 in
     record {
       done = p.done ++ command ∷ [];
       left = rest_of before command next;
@@ -245,10 +245,10 @@ torn_end content opened before number failing stop command views wo w wn fo f fn
       failed = p.failed ++ g;
       more = [];
       views = torn.1;
-      told = split_past opened before p.done command next p.told;
+      known = split_past opened before p.done command next p.known;
       run = run_more content p.done command [] views torn.1 p.lines torn.0 p.failed g p.run torn.2;
       gains = gains_only content fo fn (p.failed ++ g) b n (gains_more content fo f fn p.failed g b m n p.gains gains);
-      wrote = record { front = front.front; rest = front.rest; parts = lines-append p.lines torn.0 ∙ front.parts; added = front.added; all = λ e. cc };
+      wrote = record { prefix = prefix.prefix; rest = prefix.rest; parts = lines-append p.lines torn.0 ∙ prefix.parts; added = prefix.added; all = λ e. cc };
       end = tt;
     }
 
@@ -264,13 +264,13 @@ ends_stopped content opened before number failing stop command views wo w wn fo 
 pub fetches_before : (content : Option Contents) (opened before : Option (List Command)) (number : ℕ) (failing : Bool) (views : List Seen) (wo wn : Option (List ℕ)) (fo fn : List Address) (b n to tn : ℕ) (all : List Command)
     → opened ≡ Some all → SoFar content opened before number failing views wo wn fo fn b n to tn → tn ≤ to + begins_in all
 fetches_before content opened before number failing views wo wn fo fn b n to tn all e p =
-    let split = subst (λ o. IfSome o (λ x. x ≡ p.done ++ left_of before)) e (split_left opened before p.done p.told) in
+    let split = subst (λ o. IfSome o (λ x. x ≡ p.done ++ left_of before)) e (split_left opened before p.done p.known) in
     omega (arith, p.fetches, ap begins_in split, begins-append p.done (left_of before))
 
 pub fetches_past : (content : Option Contents) (opened before : Option (List Command)) (number : ℕ) (failing : Bool) (command : Command) (views : List Seen) (wo wn : Option (List ℕ)) (fo fn : List Address) (b n to t tn : ℕ) (all : List Command)
     → opened ≡ Some all → SoFar content opened before number failing views wo wn fo fn b n to t → HasNext before command → tn ≤ t + running_in views + begin_in command → tn ≤ to + begins_in all
 fetches_past content opened before number failing command views wo wn fo fn b n to t tn all e p next le =
-    let split = subst (λ o. IfSome o (λ x. x ≡ p.done ++ command ∷ rest_of before command next)) e (split_next opened before p.done command next p.told) in
+    let split = subst (λ o. IfSome o (λ x. x ≡ p.done ++ command ∷ rest_of before command next)) e (split_next opened before p.done command next p.known) in
     omega (arith, p.fetches, le, ap begins_in split, begins-append p.done (command ∷ rest_of before command next), begins-first command (rest_of before command next))
 
 -- ---- what a reader and a line gave

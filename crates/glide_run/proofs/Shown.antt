@@ -21,17 +21,17 @@ views_text form views = lines_text (lines_as form (views_by views))
 -- one view more
 pub text_more : (form : Form) (xs : List code_view.View) (i : ℕ) (v : code_view.View) → i < length xs → v ≡ get_or xs i v → views_text form (take (i + 1) xs) ≡ views_text form (take i xs) ++ line_text (line_as form (view_by v))
 text_more form xs i v lt e =
-    let front = views_by (take i xs) in
-    ap (λ l. lines_text (lines_as form l)) (seen_more xs i v lt e) ∙ ap lines_text (map-append (line_as form) front (view_by v ∷ []))
-    ∙ lines-append (lines_as form front) (line_as form (view_by v) ∷ []) ∙ ap (λ l. lines_text (lines_as form front) ++ l) (one_line (line_as form (view_by v)))
+    let prefix = views_by (take i xs) in
+    ap (λ l. lines_text (lines_as form l)) (seen_more xs i v lt e) ∙ ap lines_text (map-append (line_as form) prefix (view_by v ∷ []))
+    ∙ lines-append (lines_as form prefix) (line_as form (view_by v) ∷ []) ∙ ap (λ l. lines_text (lines_as form prefix) ++ l) (one_line (line_as form (view_by v)))
 
 -- the views before a place, and those from it on
 text_parts : (form : Form) (xs : List code_view.View) (i : ℕ) → views_text form xs ≡ views_text form (take i xs) ++ views_text form (drop i xs)
 text_parts form xs i =
-    let front = views_by (take i xs) in
+    let prefix = views_by (take i xs) in
     let rest = views_by (drop i xs) in
     ap (views_text form) (sym (take-append-drop i xs)) ∙ ap (λ l. lines_text (lines_as form l)) (map-append view_by (take i xs) (drop i xs))
-    ∙ ap lines_text (map-append (line_as form) front rest) ∙ lines-append (lines_as form front) (lines_as form rest)
+    ∙ ap lines_text (map-append (line_as form) prefix rest) ∙ lines-append (lines_as form prefix) (lines_as form rest)
 
 -- the views before one, that one, and the rest
 pub text_around : (form : Form) (xs : List code_view.View) (i : ℕ) (v : code_view.View) → i < length xs → v ≡ get_or xs i v

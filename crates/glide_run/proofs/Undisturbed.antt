@@ -8,7 +8,8 @@ use Rattle.std.proofs.lemmas.Slice.Eq.{bytes_eq-Decides}
 use Rattle.outside.specs.Content.{Address, Contents}
 use Rattle.cache_key.specs.Key.{Key}
 use Rattle.glide_run.specs.Script.{Command, Nothing, Bad, Load, Dump, Show}
-use Rattle.glide_run.specs.Views.{Running, View, seen, address_of, names_of, has_name, can_name, named, put_view}
+use Rattle.glide_run.specs.Views.{Running, View, seen, names_of, has_name, can_name, named, put_view}
+use Rattle.cache_key.specs.KeyBytes.{address_of}
 use Rattle.glide_run.specs.Printed.{Pixels, Digest, lines_as, run_text}
 use Rattle.glide_run.specs.Walk.{bad_line, first_mark, other_marks, gathered, walk, output, status_of, same_address, marked_begins, same_begin, distinct, begins_at}
 use Rattle.glide_run.specs.Ending.{IsWalk, IsAnswer, IsStill}

@@ -1,4 +1,4 @@
--- The code's types, as the definitions see them. It is this project's own. What moves to another crate moves here alone.
+-- The code's types, as the definitions see them.
 use Rattle.std.specs.Prelude.{List, map, ⊤}
 use Rattle.cache_key.specs.Key.{Key}
 use Rattle.glide_run.specs.declared.requests.Request.{Request}
@@ -16,7 +16,15 @@ use Rattle.glide_run.specs.Printed.{Form, Pixels, Digest}
 -- the key of a request, whose texts are borrowed from a line
 abbrev pub request_key : Request → Key
 request_key request =
-    record { url = request.url.now; sig = request.sig.now; width = request.width; height = request.height; transform = request.transform; config = request.config; rule = request.rule }
+    record {
+      url = request.url.now;
+      sig = request.sig.now;
+      width = request.width;
+      height = request.height;
+      transform = request.transform;
+      config = request.config;
+      rule = request.rule;
+    }
 
 -- a command
 abbrev pub command_by : code_command.Command → Command

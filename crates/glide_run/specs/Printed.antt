@@ -51,7 +51,8 @@ cause_text Source = codes "source"
 cause_text Memory = codes "memory"
 cause_text Uncached = codes "uncached"
 
--- how a line shows a picture: by its pixels, as `dump` prints them, or by its size, config and digest, as `show` does
+-- how a line shows a picture: by its pixels, as `dump` prints them, or by its size, config and digest, as
+-- `show` does
 pub data Form : Type 0 where
   Pixels : Form
   Digest : Form
@@ -78,14 +79,15 @@ config_word Alpha8 = codes "alpha"
 -- what a line says of a picture before its hex: `pixels`, or `shown`, the width, the height and the config
 abbrev pub picture_head : Form → Picture → List ℕ
 picture_head Pixels picture = codes "pixels "
-picture_head Digest picture = codes "shown " ++ decimal picture.width ++ 32 ∷ decimal picture.height ++ 32 ∷ config_word picture.config ++ 32 ∷ []
+picture_head Digest picture = codes "shown " ++ decimal picture.width ++ 32 ∷ decimal picture.height
+    ++ 32 ∷ config_word picture.config ++ 32 ∷ []
 
 -- the bytes whose hex it says: the stored ones, or their SHA-256 (FIPS 180-4)
 abbrev pub picture_bytes : Form → Picture → List ℕ
 picture_bytes Pixels picture = picture.bytes
 picture_bytes Digest picture = sha256 picture.bytes
 
--- what a line says of a view behind its name, before the hex of its picture, or why it failed
+-- what a line says of a view after its name, before the hex of its picture, or why it failed
 abbrev pub state_head : {N : Type 0} → Form → State N → List ℕ
 state_head form (Running note) = codes "running"
 state_head form (Complete picture) = picture_head form picture
@@ -99,9 +101,10 @@ state_picture form (Failed cause) = []
 
 -- a whole line: the view's name, what is said of it, and a line feed
 abbrev pub line_text : PrintedLine → List ℕ
-line_text line = line.view.name ++ 32 ∷ state_head line.form line.view.state ++ state_picture line.form line.view.state ++ 10 ∷ []
+line_text line = line.view.name ++ 32 ∷ state_head line.form line.view.state
+    ++ state_picture line.form line.view.state ++ 10 ∷ []
 
--- lines one behind the other
+-- lines one after the other
 abbrev pub lines_text : List PrintedLine → List ℕ
 lines_text [] = []
 lines_text (line ∷ lines) = line_text line ++ lines_text lines

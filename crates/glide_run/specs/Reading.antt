@@ -1,4 +1,4 @@
--- What a reader of lines has before it, and what it gives. It is this project's own.
+-- What a reader of lines has before it, and what it gives.
 use Rattle.std.specs.Prelude.{◌≡◌, ℕ, ◌<◌, Bool, ◌==◌, List, [], ◌∷◌, ◌++◌, length, Some, None, IfSome, ⊤, Result, Ok, Err}
 use Rattle.std.specs.declared.option.Option.{Option}
 use Rattle.std.specs.Option.{option_map}
@@ -9,13 +9,14 @@ use Rattle.glide_run.specs.declared.reader.Next.{Next}
 use Rattle.glide_run.specs.declared.reader.Next.TheVariants.{Line, Last, End, TooLong}
 use Rattle.glide_run.specs.Script.{Command, Bad, line_command, commands_within}
 
--- a reader: the bytes that it took from the input and did not yet give, the line that it gave last, and how many bytes a script may still have
+-- a reader: the bytes that it took from the input and did not yet give, the line that it gave last, and
+-- how many bytes a script may still have
 pub record ReaderValue : Type 0 where
   pub pending : List ℕ
   pub line : List ℕ
   pub room : ℕ
 
--- what the bytes before a reader ask for, where they are told
+-- what the bytes before a reader ask for, where they are known
 abbrev pub commands_before : ReaderValue → Option (List ℕ) → Option (List Command)
 commands_before reader left = option_map (commands_within reader.room) (prepend_known reader.pending left)
 
@@ -25,14 +26,15 @@ has_line_feed bytes = list_any (λ byte. byte == 10) bytes
 
 -- The pending bytes grew by what was taken from the input, by nothing only at its end.
 abbrev pub Fills : Result ℕ Failed → List ℕ → List ℕ → Option (List ℕ) → Option (List ℕ) → Type 0
-Fills (Ok count) old new left rest = (taken : List ℕ) × (new ≡ old ++ taken) × (length taken ≡ count) × Consumes left rest taken × (count ≡ 0 → IsAtEnd rest)
+Fills (Ok count) old new left rest = (taken : List ℕ) × (new ≡ old ++ taken) × (length taken ≡ count)
+    × Consumes left rest taken × (count ≡ 0 → IsAtEnd rest)
 Fills (Err fault) old new left rest = (new ≡ old) × Keeps left rest
 
 -- The first of these asks for what is bad.
 abbrev pub BeginsBad : List Command → Type 0
 BeginsBad commands = (rest : List Command) × (commands ≡ Bad ∷ rest)
 
--- The old commands are this one and the new ones, where they are told.
+-- The old commands are this one and the new ones, where they are known.
 abbrev pub IsNext : Option (List Command) → Command → Option (List Command) → Type 0
 IsNext None command new = ⊤
 IsNext (Some old) command None = ⊥

@@ -1,4 +1,5 @@
--- The script language: lines, their words, and what a line asks for. It is this project's own; docs/SCRIPT.md tells it whole.
+-- The script language: lines, their words, and what a line asks for. It is this project's own;
+-- docs/SCRIPT.md says it whole.
 use Rattle.std.specs.Prelude.{ℕ, ◌-◌, Bool, false, not, ◌&&◌, ◌||◌, ◌==◌, nat_le, nat_lt, nat_eq, List, [], ◌∷◌, ◌++◌, length, take, get_or, map, if◌then◌else◌, Some, None, codes}
 use Rattle.std.specs.List.{filter, slice_split, list_all, ends_with}
 use Rattle.std.specs.Char.{is_ascii_alphanumeric, is_ascii_digit}
@@ -77,7 +78,9 @@ is_name word = not (length word == 0) && nat_le (length word) name_limit && list
 
 -- up to five digits, the first of them not 0, that spell a number from 1 to 16,384
 abbrev pub is_side : List ℕ → Bool
-is_side word = list_all is_ascii_digit word && nat_le (length word) 5 && not (get_or word 0 48 == 48) && nat_lt 0 (digits_value 10 word) && nat_le (digits_value 10 word) wanted_side_limit
+is_side word =
+    list_all is_ascii_digit word && nat_le (length word) 5 && not (get_or word 0 48 == 48)
+    && nat_lt 0 (digits_value 10 word) && nat_le (digits_value 10 word) wanted_side_limit
 
 -- a wanted side in pixels
 abbrev pub side : List ℕ → Option ℕ
@@ -87,21 +90,34 @@ side word = if is_side word then Some (digits_value 10 word) else None
 
 -- TRANSFORM: the words for Glide's transformations
 abbrev pub transform_named : List ℕ → Option Transform
-transform_named word = if bytes_eq word (codes "none") then Some transforms.Nothing else if bytes_eq word (codes "fit") then Some transforms.Fit
-    else if bytes_eq word (codes "crop") then Some transforms.Crop else if bytes_eq word (codes "inside") then Some transforms.Inside else None
+transform_named word =
+    if bytes_eq word (codes "none") then Some transforms.Nothing
+    else if bytes_eq word (codes "fit") then Some transforms.Fit
+    else if bytes_eq word (codes "crop") then Some transforms.Crop
+    else if bytes_eq word (codes "inside") then Some transforms.Inside
+    else None
 
 -- CONFIG: the words for Android's Bitmap.Config
 abbrev pub config_named : List ℕ → Option Config
-config_named word = if bytes_eq word (codes "argb") then Some configs.Argb8888 else if bytes_eq word (codes "rgb565") then Some configs.Rgb565
-    else if bytes_eq word (codes "alpha") then Some configs.Alpha8 else None
+config_named word =
+    if bytes_eq word (codes "argb") then Some configs.Argb8888
+    else if bytes_eq word (codes "rgb565") then Some configs.Rgb565
+    else if bytes_eq word (codes "alpha") then Some configs.Alpha8
+    else None
 
 -- the words for Glide's strategies AT_LEAST and AT_MOST
 abbrev pub rule_named : List ℕ → Option Rule
-rule_named word = if bytes_eq word (codes "atleast") then Some rules.AtLeast else if bytes_eq word (codes "atmost") then Some rules.AtMost else None
+rule_named word =
+    if bytes_eq word (codes "atleast") then Some rules.AtLeast
+    else if bytes_eq word (codes "atmost") then Some rules.AtMost
+    else None
 
 -- the rule of a load, which is its ninth and last word; without one it is `atleast`
 abbrev pub rule_of : List (List ℕ) → Option Rule
-rule_of ws = if length ws == 8 then Some rules.AtLeast else if length ws == 9 then rule_named (word ws 8) else None
+rule_of ws =
+    if length ws == 8 then Some rules.AtLeast
+    else if length ws == 9 then rule_named (word ws 8)
+    else None
 
 -- a view's name, a url of at most 1,024 bytes and a signature of at most 64
 abbrev pub is_request : List ℕ → List ℕ → List ℕ → Bool
@@ -121,16 +137,27 @@ key_of ws = do
   transform ← transform_named (word ws 6)
   config ← config_named (word ws 7)
   rule ← rule_of ws
-  Some record { url = word ws 2; sig = word ws 3; width = width; height = height; transform = transform; config = config; rule = rule }
+  Some record {
+    url = word ws 2;
+    sig = word ws 3;
+    width = width;
+    height = height;
+    transform = transform;
+    config = config;
+    rule = rule;
+  }
 
 -- a load in this view, or a bad line
 abbrev pub load_of : List ℕ → Option Key → Command
 load_of view None = Bad
 load_of view (Some key) = Load view key
 
--- `load VIEW URL SIG W H TRANSFORM CONFIG`, with the rule behind it or without
+-- `load VIEW URL SIG W H TRANSFORM CONFIG`, with the rule after it or without
 abbrev pub load_command : List (List ℕ) → Command
-load_command ws = if bytes_eq (word ws 0) (codes "load") && is_request (word ws 1) (word ws 2) (word ws 3) then load_of (word ws 1) (key_of ws) else Bad
+load_command ws =
+    if bytes_eq (word ws 0) (codes "load") && is_request (word ws 1) (word ws 2) (word ws 3)
+    then load_of (word ws 1) (key_of ws)
+    else Bad
 
 -- `dump VIEW`
 abbrev pub dump_command : List ℕ → List ℕ → Command
@@ -142,7 +169,12 @@ show_command verb = if bytes_eq verb (codes "show") then Show else Bad
 
 -- what a line with these words asks for
 abbrev pub words_command : List (List ℕ) → Command
-words_command ws = if length ws == 0 then Nothing else if length ws == 1 then show_command (word ws 0) else if length ws == 2 then dump_command (word ws 0) (word ws 1) else if nat_le 8 (length ws) then load_command ws else Bad
+words_command ws =
+    if length ws == 0 then Nothing
+    else if length ws == 1 then show_command (word ws 0)
+    else if length ws == 2 then dump_command (word ws 0) (word ws 1)
+    else if nat_le 8 (length ws) then load_command ws
+    else Bad
 
 -- a space, or a byte of a word
 abbrev pub is_line_byte : ℕ → Bool
@@ -155,8 +187,11 @@ is_comment other = false
 
 -- what a line asks for that has no carriage return at its end
 abbrev pub trimmed_command : List ℕ → Command
-trimmed_command line = if nat_lt line_limit (length line) then Bad else if is_comment (words line) then Nothing
-    else if list_all is_line_byte line then words_command (words line) else Bad
+trimmed_command line =
+    if nat_lt line_limit (length line) then Bad
+    else if is_comment (words line) then Nothing
+    else if list_all is_line_byte line then words_command (words line)
+    else Bad
 
 -- what a line asks for, which may have a carriage return at its end and has at most 2,048 bytes without it
 abbrev pub line_command : List ℕ → Command
@@ -164,7 +199,8 @@ line_command line = trimmed_command (trimmed line)
 
 -- ---- a script
 
--- What the lines ask for, where only so many bytes may be read: in a longer text the line that holds the byte after them is bad.
+-- What the lines ask for, where only so many bytes may be read: in a longer text the line that holds the
+-- byte after them is bad.
 abbrev pub commands_within : ℕ → List ℕ → List Command
 commands_within room text = if nat_le (length text) room then map line_command (lines_of text)
     else map line_command (ended_lines (take room text)) ++ Bad ∷ []

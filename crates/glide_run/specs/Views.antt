@@ -1,8 +1,9 @@
--- Views, and what becomes of the pictures that are asked for in them. A view stands for one of Android's on the screen, and its states for those of Glide's request; that there is a script of them, and at most 4,096, is this project's own.
+-- Views, and what becomes of the pictures that are asked for in them. A view stands for one of Android's
+-- on the screen, and its states for those of Glide's request; that there is a script of them, and at most
+-- 4,096, is this project's own.
 use Rattle.std.specs.Prelude.{ℕ, Bool, false, ◌||◌, nat_lt, List, [], ◌∷◌, ◌++◌, length, map, if◌then◌else◌, Ok, Err, Some, None, Result, ⊤}
 use Rattle.std.specs.declared.option.Option.{Option}
 use Rattle.std.specs.Str.{bytes_eq}
-use Rattle.outside.specs.Content.{Address}
 use Rattle.bitmap_kind.specs.Picture.{Picture}
 use Rattle.cache_key.specs.Key.{Key}
 use Rattle.glide_run.specs.declared.causes.Cause.{Cause}
@@ -37,10 +38,6 @@ abbrev pub seen : {N : Type 0} → View N → Seen
 seen view = record { name = view.name; key = view.key; state = seen_state view.state }
 
 -- ---- what a fetch leads to
-
--- where the text of a picture is
-abbrev pub address_of : Key → Address
-address_of key = (key.url, key.sig)
 
 -- where a text was decoded, or refused
 abbrev pub decoded : {N : Type 0} → Result Picture Refusal → State N
@@ -80,7 +77,7 @@ abbrev pub named : {N : Type 0} → List ℕ → List (View N) → List (View N)
 named name [] = []
 named name (view ∷ views) = if bytes_eq view.name name then view ∷ [] else named name views
 
--- the view in the place of the one of its name, or behind all
+-- the view in the place of the one of its name, or after all
 abbrev pub put_view : {N : Type 0} → View N → List (View N) → List (View N)
 put_view new [] = new ∷ []
 put_view new (view ∷ views) = if bytes_eq view.name new.name then new ∷ views else view ∷ put_view new views

@@ -26,9 +26,11 @@ fn transformed(
     target: (u32, u32),
     key: &EngineKey,
 ) -> Result<Bitmap, NoMemory>
-    requires target { target ≡ target_size decoded.picture.width decoded.picture.height key.now.transform key.now.width key.now.height }
+    requires target { target ≡ target_size decoded.picture.width decoded.picture.height
+        key.now.transform key.now.width key.now.height }
     requires fits { IsSize target.0 target.1 }
-    ensures { IfOk result (λ bitmap. bitmap.picture ≡ moved decoded.picture key.now.transform key.now.width key.now.height) }
+    ensures { IfOk result (λ bitmap. bitmap.picture
+        ≡ moved decoded.picture key.now.transform key.now.width key.now.height) }
 {
     if (decoded.width(), decoded.height()) == target {
         kept_size_moves_nothing();
@@ -43,7 +45,8 @@ fn transformed(
 // The picture of a text under a key: planned, decoded and transformed.
 fn text_picture(alloc: Global, text: &[u8], key: &EngineKey) -> Result<Bitmap, DecodeFault>
     ensures picture { IfOk result (λ bitmap. picture_of text.now key.now ≡ Ok bitmap.picture) }
-    ensures refused { (refusal : Refusal) → result ≡ Err (DecodeFault.Refused refusal) → picture_of text.now key.now ≡ Err refusal }
+    ensures refused { (refusal : Refusal) → result ≡ Err (DecodeFault.Refused refusal)
+        → picture_of text.now key.now ≡ Err refusal }
 {
     let plan = plan_of(text, key)?;
     let (width, height) = plan.decoded;
@@ -59,9 +62,11 @@ fn load_picture<S: Source>(
     key: &EngineKey,
 ) -> Result<ViewState, NoMemory>
     ensures ends { IfOk result (λ state. (failed : List Address)
-        × Gains (S.content source.old) (S.failed source.old) (S.failed source.new) (S.faults source.old) (S.faults source.new) failed
+        × Gains (S.content source.old) (S.failed source.old) (S.failed source.new) (S.faults source.old)
+        (S.faults source.new) failed
         × Ends (S.content source.old) key.now failed (state_by state)) }
-    ensures err { OnErr result (Gains (S.content source.old) (S.failed source.old) (S.failed source.new) (S.faults source.old) (S.faults source.new) []) }
+    ensures err { OnErr result (Gains (S.content source.old) (S.failed source.old) (S.failed source.new)
+        (S.faults source.old) (S.faults source.new) []) }
     ensures content { S.content source.new ≡ S.content source.old }
     ensures fetches { S.fetched source.new ≤ S.fetched source.old + 1 }
 {
@@ -80,9 +85,11 @@ fn load_picture<S: Source>(
 // Brings a view to its end. One that is there already keeps what it shows.
 fn settle<S: Source>(alloc: Global, source: &mut S, view: &mut View) -> Result<(), NoMemory>
     ensures settles { OnOk result ((failed : List Address)
-        × Gains (S.content source.old) (S.failed source.old) (S.failed source.new) (S.faults source.old) (S.faults source.new) failed
+        × Gains (S.content source.old) (S.failed source.old) (S.failed source.new) (S.faults source.old)
+        (S.faults source.new) failed
         × Settles (S.content source.old) (view_by view.old) failed (view_by view.new)) }
-    ensures err { OnErr result (Gains (S.content source.old) (S.failed source.old) (S.failed source.new) (S.faults source.old) (S.faults source.new) []) }
+    ensures err { OnErr result (Gains (S.content source.old) (S.failed source.old) (S.failed source.new)
+        (S.faults source.old) (S.faults source.new) []) }
     ensures content { S.content source.new ≡ S.content source.old }
     ensures fetches { S.fetched source.new ≤ S.fetched source.old + running_at (state_by view.old.state) }
 {
@@ -102,8 +109,10 @@ pub fn gather<S: Source>(
     views: &mut Vec<View>,
 ) -> Result<(), NoMemory>
     ensures gathers { (failed : List Address)
-        × Gains (S.content source.old) (S.failed source.old) (S.failed source.new) (S.faults source.old) (S.faults source.new) failed
-        × OnOk result (Gathers (S.content source.old) (views_by views.old.items) failed (views_by views.new.items)) }
+        × Gains (S.content source.old) (S.failed source.old) (S.failed source.new) (S.faults source.old)
+        (S.faults source.new) failed
+        × OnOk result (Gathers (S.content source.old) (views_by views.old.items) failed
+        (views_by views.new.items)) }
     ensures content { S.content source.new ≡ S.content source.old }
     ensures fetches { S.fetched source.new ≤ S.fetched source.old + running_in (views_by views.old.items) }
 {

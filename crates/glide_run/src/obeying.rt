@@ -19,8 +19,10 @@ pub fn obey_script<S: Source, I: Input, W: Sink>(
     source: &mut S,
 ) -> Result<Ended, Stop>
     ensures gives { ScriptGives (S.content source.old) (option_map commands (I.left input.old)) result
-        (W.written out.old) (W.written out.new) (S.failed source.old) (S.failed source.new) (S.faults source.old) (S.faults source.new) }
-    ensures fetches { (script : List ℕ) → I.left input.old ≡ Some script → S.fetched source.new ≤ S.fetched source.old + begins_in (commands script) }
+        (W.written out.old) (W.written out.new) (S.failed source.old) (S.failed source.new)
+        (S.faults source.old) (S.faults source.new) }
+    ensures fetches { (script : List ℕ) → I.left input.old ≡ Some script
+        → S.fetched source.new ≤ S.fetched source.old + begins_in (commands script) }
     ensures sink { HasCause (W.faults out.old) (W.faults out.new) (result ≡ Err Stop.Write) }
     ensures input { HasCause (I.faults input.old) (I.faults input.new) (result ≡ Err Stop.Input) }
 {

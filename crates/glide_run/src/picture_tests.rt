@@ -17,8 +17,8 @@ const LINE_OF_FOUR: &[u8] = b"P6\n4 1\n255\n\x01\x01\x01\x02\x02\x02\x03\x03\x03
 const SIX: &[u8] =
     b"P6\n3 2\n255\n\x01\x01\x01\x02\x02\x02\x03\x03\x03\x04\x04\x04\x05\x05\x05\x06\x06\x06";
 
-// A Windows bitmap of 3 by -1 pixels of 32 bits by masks, with an info header of 108 bytes: black, of the alphas 97, 98
-// and 99.
+// A Windows bitmap of 3 by -1 pixels of 32 bits by masks, with an info header of 108 bytes: black, of the
+// alphas 97, 98 and 99.
 const ALPHA: [u8; 134] = *b"BM\x86\x00\x00\x00\x00\x00\x00\x00\x7a\x00\x00\x00\
     \x6c\x00\x00\x00\x03\x00\x00\x00\xff\xff\xff\xff\x01\x00\x20\x00\x03\x00\x00\x00\
     \x0c\x00\x00\x00\x00\x00\x00\x00\x00\x00\x00\x00\x00\x00\x00\x00\x00\x00\x00\x00\
@@ -51,7 +51,7 @@ const INDEXED: &[u8] = b"BMB\x00\x00\x00\x00\x00\x00\x00\x3e\x00\x00\x00\
 fn pictures(rt: HostRuntime) -> Result<(), Fail> {
     let alloc = rt.alloc();
     check_red(&rt, alloc, RED, LINE, 0)?;
-    // Bytes behind the raster are ignored.
+    // Bytes after the raster are ignored.
     check_red(
         &rt,
         alloc,
@@ -265,7 +265,8 @@ fn samples(rt: HostRuntime) -> Result<(), Fail> {
     Ok(())
 }
 
-// Rows that make no whole block beside others are read too, and a text that lacks a byte of them is too short.
+// Rows that make no whole block beside others are read too, and a text that lacks a byte of them is too
+// short.
 #[test]
 fn rows_behind_the_blocks(rt: HostRuntime) -> Result<(), Fail> {
     let alloc = rt.alloc();

@@ -5,7 +5,7 @@ ghost use Rattle.hex.specs.Hex.{encode_lower};
 ghost use Rattle.sha2.specs.Sha256.{sha256};
 ghost use Rattle.outside.specs.Causes.{HasCause};
 ghost use Rattle.glide_run.specs.Printed.{ppm_text, bmp_text, refusal_text, cause_text, config_word, picture_head, state_head, state_picture, line_as, lines_as, line_text, lines_text};
-ghost use Rattle.glide_run.specs.Effects.{WritesFront};
+ghost use Rattle.glide_run.specs.Effects.{WritesPrefix};
 ghost use Rattle.glide_run.specs.CodeTypes.{state_by, view_by, views_by, form_by};
 
 use crate::causes::Cause;
@@ -30,9 +30,9 @@ pub enum Form {
     Digest,
 }
 
-/// Writes the bytes, or a front of them.
+/// Writes the bytes, or a prefix of them.
 pub fn write_all<W: Sink>(out: &mut W, bytes: &[u8]) -> Result<(), WriteFault>
-    ensures bytes { WritesFront (W.written out.old) (W.written out.new) bytes.now (IsOk result) }
+    ensures bytes { WritesPrefix (W.written out.old) (W.written out.new) bytes.now (IsOk result) }
     ensures cause { HasCause (W.faults out.old) (W.faults out.new) (result ≡ Err WriteFault.Failed) }
 {
     let mut at = 0;
@@ -48,7 +48,8 @@ pub fn write_all<W: Sink>(out: &mut W, bytes: &[u8]) -> Result<(), WriteFault>
 // Writes bytes as hex, with a buffer for the digits.
 fn write_digits<W: Sink>(out: &mut W, bytes: &[u8], digits: &mut [u8]) -> Result<(), WriteFault>
     requires { length digits.old ≡ 2 * length bytes.now }
-    ensures bytes { WritesFront (W.written out.old) (W.written out.new) (encode_lower bytes.now) (IsOk result) }
+    ensures bytes { WritesPrefix (W.written out.old) (W.written out.new) (encode_lower bytes.now)
+        (IsOk result) }
     ensures cause { HasCause (W.faults out.old) (W.faults out.new) (result ≡ Err WriteFault.Failed) }
 {
     let encoded = hex::encode_to_slice(bytes, digits).is_ok();
@@ -59,7 +60,8 @@ fn write_digits<W: Sink>(out: &mut W, bytes: &[u8], digits: &mut [u8]) -> Result
 // Writes bytes as lower-case hex, in pieces of which the buffer holds the digits.
 fn write_pieces<W: Sink>(out: &mut W, bytes: &[u8], digits: &mut [u8]) -> Result<(), WriteFault>
     requires { 2 ≤ length digits.old }
-    ensures bytes { WritesFront (W.written out.old) (W.written out.new) (encode_lower bytes.now) (IsOk result) }
+    ensures bytes { WritesPrefix (W.written out.old) (W.written out.new) (encode_lower bytes.now)
+        (IsOk result) }
     ensures cause { HasCause (W.faults out.old) (W.faults out.new) (result ≡ Err WriteFault.Failed) }
 {
     let most = digits.len() / 2;
@@ -81,7 +83,8 @@ fn zeros(alloc: Global, count: usize) -> Result<Vec<u8>, AllocError>
 }
 
 fn write_hex<W: Sink>(alloc: Global, out: &mut W, bytes: &[u8]) -> Result<(), WriteFault>
-    ensures bytes { WritesFront (W.written out.old) (W.written out.new) (encode_lower bytes.now) (IsOk result) }
+    ensures bytes { WritesPrefix (W.written out.old) (W.written out.new) (encode_lower bytes.now)
+        (IsOk result) }
     ensures cause { HasCause (W.faults out.old) (W.faults out.new) (result ≡ Err WriteFault.Failed) }
 {
     match zeros(alloc, DIGITS) {
@@ -90,9 +93,10 @@ fn write_hex<W: Sink>(alloc: Global, out: &mut W, bytes: &[u8]) -> Result<(), Wr
     }
 }
 
-/// Writes the SHA-256 (FIPS 180-4) of the bytes as lower-case hex, or a front of it.
+/// Writes the SHA-256 (FIPS 180-4) of the bytes as lower-case hex, or a prefix of it.
 pub fn write_digest<W: Sink>(out: &mut W, bytes: &[u8]) -> Result<(), WriteFault>
-    ensures bytes { WritesFront (W.written out.old) (W.written out.new) (encode_lower (sha256 bytes.now)) (IsOk result) }
+    ensures bytes { WritesPrefix (W.written out.old) (W.written out.new) (encode_lower (sha256 bytes.now))
+        (IsOk result) }
     ensures cause { HasCause (W.faults out.old) (W.faults out.new) (result ≡ Err WriteFault.Failed) }
 {
     let digest = Sha256::digest(bytes);
@@ -173,7 +177,8 @@ fn config_word(config: Config) -> &'static str
 }
 
 fn shown_head(alloc: Global, width: u32, height: u32, config: &str) -> Result<Vec<u8>, AllocError>
-    ensures { IfOk result (λ head. head.items ≡ codes "shown " ++ decimal width ++ 32 ∷ decimal height ++ 32 ∷ config.now ++ 32 ∷ []) }
+    ensures { IfOk result (λ head. head.items
+        ≡ codes "shown " ++ decimal width ++ 32 ∷ decimal height ++ 32 ∷ config.now ++ 32 ∷ []) }
 {
     let text = format!(in alloc; "shown {width} {height} {config} ")?;
     Ok(text.into_bytes())
@@ -194,7 +199,7 @@ fn picture_head(alloc: Global, form: Form, bitmap: &Bitmap) -> Result<Vec<u8>, A
     }
 }
 
-// What a view's line says behind its name, but for a picture's hex.
+// What a view's line says after its name, but for a picture's hex.
 fn state_head(alloc: Global, form: Form, state: &ViewState) -> Result<Vec<u8>, AllocError>
     ensures { IfOk result (λ head. head.items ≡ state_head (form_by form) (state_by state.now)) }
 {
@@ -205,9 +210,10 @@ fn state_head(alloc: Global, form: Form, state: &ViewState) -> Result<Vec<u8>, A
     }
 }
 
-// A view's name, a space and what stands behind them, but for a picture's hex.
+// A view's name, a space and what stands after them, but for a picture's hex.
 fn head_of(alloc: Global, form: Form, view: &View) -> Result<Vec<u8>, AllocError>
-    ensures { IfOk result (λ head. head.items ≡ (view_by view.now).name ++ 32 ∷ state_head (form_by form) (view_by view.now).state) }
+    ensures { IfOk result (λ head. head.items
+        ≡ (view_by view.now).name ++ 32 ∷ state_head (form_by form) (view_by view.now).state) }
 {
     let mut head = view.name.bytes().to_vec(alloc)?;
     head.push(b' ')?;
@@ -222,7 +228,8 @@ fn write_head<W: Sink>(
     form: Form,
     view: &View,
 ) -> Result<(), WriteFault>
-    ensures bytes { WritesFront (W.written out.old) (W.written out.new) ((view_by view.now).name ++ 32 ∷ state_head (form_by form) (view_by view.now).state) (IsOk result) }
+    ensures bytes { WritesPrefix (W.written out.old) (W.written out.new)
+        ((view_by view.now).name ++ 32 ∷ state_head (form_by form) (view_by view.now).state) (IsOk result) }
     ensures cause { HasCause (W.faults out.old) (W.faults out.new) (result ≡ Err WriteFault.Failed) }
 {
     match head_of(alloc, form, view) {
@@ -237,7 +244,8 @@ fn write_picture<W: Sink>(
     form: Form,
     state: &ViewState,
 ) -> Result<(), WriteFault>
-    ensures bytes { WritesFront (W.written out.old) (W.written out.new) (state_picture (form_by form) (state_by state.now)) (IsOk result) }
+    ensures bytes { WritesPrefix (W.written out.old) (W.written out.new)
+        (state_picture (form_by form) (state_by state.now)) (IsOk result) }
     ensures cause { HasCause (W.faults out.old) (W.faults out.new) (result ≡ Err WriteFault.Failed) }
 {
     match state {
@@ -249,14 +257,15 @@ fn write_picture<W: Sink>(
     }
 }
 
-/// Writes the line of a view, or a front of it.
+/// Writes the line of a view, or a prefix of it.
 pub fn write_line<W: Sink>(
     alloc: Global,
     out: &mut W,
     form: Form,
     view: &View,
 ) -> Result<(), WriteFault>
-    ensures bytes { WritesFront (W.written out.old) (W.written out.new) (line_text (line_as (form_by form) (view_by view.now))) (IsOk result) }
+    ensures bytes { WritesPrefix (W.written out.old) (W.written out.new)
+        (line_text (line_as (form_by form) (view_by view.now))) (IsOk result) }
     ensures cause { HasCause (W.faults out.old) (W.faults out.new) (result ≡ Err WriteFault.Failed) }
 {
     match write_head(alloc, out, form, view) {
@@ -270,14 +279,15 @@ pub fn write_line<W: Sink>(
     write_all(out, b"\n")
 }
 
-/// Writes the lines of views, one after the other, or a front of them.
+/// Writes the lines of views, one after the other, or a prefix of them.
 pub fn write_lines<W: Sink>(
     alloc: Global,
     out: &mut W,
     form: Form,
     views: &[View],
 ) -> Result<(), WriteFault>
-    ensures bytes { WritesFront (W.written out.old) (W.written out.new) (lines_text (lines_as (form_by form) (views_by views.now))) (IsOk result) }
+    ensures bytes { WritesPrefix (W.written out.old) (W.written out.new)
+        (lines_text (lines_as (form_by form) (views_by views.now))) (IsOk result) }
     ensures cause { HasCause (W.faults out.old) (W.faults out.new) (result ≡ Err WriteFault.Failed) }
 {
     for view in views {

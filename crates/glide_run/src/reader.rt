@@ -12,7 +12,7 @@ pub const SCRIPT_LIMIT: usize = 1_048_576;
 // How many bytes a line may have without its line feed: 2,048, and a carriage return.
 const LINE_LIMIT: usize = 2_049;
 
-// Room for a line that is not whole yet, and for what is read behind it.
+// Room for a line that is not whole yet, and for what is read after it.
 const BUFFER: usize = 8_192;
 
 /// What was read.
@@ -28,7 +28,8 @@ pub enum Next {
     TooLong,
 }
 
-/// Reads lines from an input. Pending bytes stand at `from..to` of the buffer, and the line that was read last before them.
+/// Reads lines from an input. Pending bytes stand at `from..to` of the buffer, and the line that was read
+/// last before them.
 #[derive(Drop)]
 pub struct LineReader {
     buffer: [u8; BUFFER],
@@ -47,7 +48,8 @@ pub struct LineReader {
 // Where the first line feed is.
 fn line_feed_in(bytes: &[u8]) -> Option<usize>
     ensures { MatchOption result (has_line_feed bytes.now ≡ false)
-        (λ at. (at < length bytes.now) × (bytes.now ≡ take at bytes.now ++ 10 ∷ drop (at + 1) bytes.now) × (has_line_feed (take at bytes.now) ≡ false)) }
+        (λ at. (at < length bytes.now) × (bytes.now ≡ take at bytes.now ++ 10 ∷ drop (at + 1) bytes.now)
+        × (has_line_feed (take at bytes.now) ≡ false)) }
 {
     for (at, byte) in bytes.iter().enumerate() {
         if *byte == b'\n' {
@@ -115,10 +117,11 @@ impl LineReader {
         self.to = count;
     }
 
-    // Reads behind the pending bytes.
+    // Reads after the pending bytes.
     fn fill<I: Input>(&mut self, input: &mut I) -> Result<usize, Failed>
         requires { length (reader_value self.old).pending < 8192 }
-        ensures fills { Fills result (reader_value self.old).pending (reader_value self.new).pending (I.left input.old) (I.left input.new) }
+        ensures fills { Fills result (reader_value self.old).pending (reader_value self.new).pending
+            (I.left input.old) (I.left input.new) }
         ensures cause { HasCause (I.faults input.old) (I.faults input.new) (IsErr result) }
         ensures room { self.new.room ≡ self.old.room }
     {
@@ -134,7 +137,9 @@ impl LineReader {
 
     /// Reads the next line. A line that is too long is found as soon as its bytes show it.
     pub fn next<I: Input>(&mut self, input: &mut I) -> Result<Next, Failed>
-        ensures next { NextGives result (reader_value self.new).line (commands_before (reader_value self.old) (I.left input.old)) (commands_before (reader_value self.new) (I.left input.new)) }
+        ensures next { NextGives result (reader_value self.new).line
+            (commands_before (reader_value self.old) (I.left input.old))
+            (commands_before (reader_value self.new) (I.left input.new)) }
         ensures cause { HasCause (I.faults input.old) (I.faults input.new) (IsErr result) }
         ensures room { result ≡ Ok Next.Line → self.new.room < self.old.room }
     {

@@ -4,8 +4,9 @@ ghost use Rattle.cache_key.specs.Key.{url_limit, sig_limit, wanted_side_limit};
 
 use bitmap_kind::{Config, Rule, Transform};
 
-/// A picture that is asked for in a view: its url and signature, the size that it is wanted at, in pixels, how it is
-/// brought there, how its pixels are stored, and on which side of that size it is decoded.
+/// A picture that is asked for in a view: its url and signature, the size that it is wanted at, in
+/// pixels, how it is brought there, how its pixels are stored, and on which side of that size it is
+/// decoded.
 #[derive(Clone, Copy)]
 pub struct Request<'a> {
     pub view: &'a [u8],

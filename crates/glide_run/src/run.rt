@@ -50,7 +50,8 @@ pub struct Ended {
 }
 
 fn view_of(alloc: Global, request: &Request<'_>) -> Result<View, NoMemory>
-    ensures { IfOk result (λ view. view_by view ≡ record { name = request.now.view.now; key = request_key request.now; state = Running tt }) }
+    ensures { IfOk result (λ view. view_by view
+        ≡ record { name = request.now.view.now; key = request_key request.now; state = Running tt }) }
 {
     Ok(View {
         name: Text::new(alloc, request.view)?,
@@ -69,8 +70,10 @@ fn view_of(alloc: Global, request: &Request<'_>) -> Result<View, NoMemory>
 
 // Obeys a `load`, and answers whether it can be.
 fn load(alloc: Global, views: &mut Vec<View>, request: &Request<'_>) -> Result<bool, NoMemory>
-    ensures load { IfOk result (λ can. LoadGives can request.now.view.now (request_key request.now) (views_by views.old.items) (views_by views.new.items)) }
-    ensures running { OnOk result (running_in (views_by views.new.items) ≤ running_in (views_by views.old.items) + 1) }
+    ensures load { IfOk result (λ can. LoadGives can request.now.view.now (request_key request.now)
+        (views_by views.old.items) (views_by views.new.items)) }
+    ensures running { OnOk result (running_in (views_by views.new.items)
+        ≤ running_in (views_by views.old.items) + 1) }
 {
     if find(views, request.view).is_none() && views.len() >= VIEW_LIMIT {
         return Ok(false);
@@ -95,10 +98,13 @@ fn dump<S: Source, W: Sink>(
     views: &mut Vec<View>,
     name: &[u8],
 ) -> Result<Obeyed, Stop>
-    ensures gives { LineGives (S.content source.old) (Dump name.now) result (views_by views.old.items) (views_by views.new.items)
-        (W.written out.old) (W.written out.new) (S.failed source.old) (S.failed source.new) (S.faults source.old) (S.faults source.new) }
+    ensures gives { LineGives (S.content source.old) (Dump name.now) result (views_by views.old.items)
+        (views_by views.new.items)
+        (W.written out.old) (W.written out.new) (S.failed source.old) (S.failed source.new)
+        (S.faults source.old) (S.faults source.new) }
     ensures content { S.content source.new ≡ S.content source.old }
-    ensures fetches { FetchesAtMost result (S.fetched source.old) (S.fetched source.new) (running_in (views_by views.old.items)) (running_in (views_by views.new.items)) 0 }
+    ensures fetches { FetchesAtMost result (S.fetched source.old) (S.fetched source.new)
+        (running_in (views_by views.old.items)) (running_in (views_by views.new.items)) 0 }
     ensures cause { HasCause (W.faults out.old) (W.faults out.new) (result ≡ Err Stop.Write) }
     ensures input { result ≢ Err Stop.Input }
 {
@@ -133,10 +139,13 @@ fn show<S: Source, W: Sink>(
     out: &mut W,
     views: &mut Vec<View>,
 ) -> Result<Obeyed, Stop>
-    ensures gives { LineGives (S.content source.old) Show result (views_by views.old.items) (views_by views.new.items)
-        (W.written out.old) (W.written out.new) (S.failed source.old) (S.failed source.new) (S.faults source.old) (S.faults source.new) }
+    ensures gives { LineGives (S.content source.old) Show result (views_by views.old.items)
+        (views_by views.new.items)
+        (W.written out.old) (W.written out.new) (S.failed source.old) (S.failed source.new)
+        (S.faults source.old) (S.faults source.new) }
     ensures content { S.content source.new ≡ S.content source.old }
-    ensures fetches { FetchesAtMost result (S.fetched source.old) (S.fetched source.new) (running_in (views_by views.old.items)) (running_in (views_by views.new.items)) 0 }
+    ensures fetches { FetchesAtMost result (S.fetched source.old) (S.fetched source.new)
+        (running_in (views_by views.old.items)) (running_in (views_by views.new.items)) 0 }
     ensures cause { HasCause (W.faults out.old) (W.faults out.new) (result ≡ Err Stop.Write) }
     ensures input { result ≢ Err Stop.Input }
 {
@@ -159,10 +168,14 @@ fn obey<S: Source, W: Sink>(
     views: &mut Vec<View>,
     command: &Command<'_>,
 ) -> Result<Obeyed, Stop>
-    ensures gives { LineGives (S.content source.old) (command_by command.now) result (views_by views.old.items) (views_by views.new.items)
-        (W.written out.old) (W.written out.new) (S.failed source.old) (S.failed source.new) (S.faults source.old) (S.faults source.new) }
+    ensures gives { LineGives (S.content source.old) (command_by command.now) result
+        (views_by views.old.items) (views_by views.new.items)
+        (W.written out.old) (W.written out.new) (S.failed source.old) (S.failed source.new)
+        (S.faults source.old) (S.faults source.new) }
     ensures content { S.content source.new ≡ S.content source.old }
-    ensures fetches { FetchesAtMost result (S.fetched source.old) (S.fetched source.new) (running_in (views_by views.old.items)) (running_in (views_by views.new.items)) (begin_in (command_by command.now)) }
+    ensures fetches { FetchesAtMost result (S.fetched source.old) (S.fetched source.new)
+        (running_in (views_by views.old.items)) (running_in (views_by views.new.items))
+        (begin_in (command_by command.now)) }
     ensures cause { HasCause (W.faults out.old) (W.faults out.new) (result ≡ Err Stop.Write) }
     ensures input { result ≢ Err Stop.Input }
 {
@@ -187,10 +200,14 @@ pub fn obey_line<S: Source, W: Sink>(
     views: &mut Vec<View>,
     line: &[u8],
 ) -> Result<Obeyed, Stop>
-    ensures gives { LineGives (S.content source.old) (line_command line.now) result (views_by views.old.items) (views_by views.new.items)
-        (W.written out.old) (W.written out.new) (S.failed source.old) (S.failed source.new) (S.faults source.old) (S.faults source.new) }
+    ensures gives { LineGives (S.content source.old) (line_command line.now) result
+        (views_by views.old.items) (views_by views.new.items)
+        (W.written out.old) (W.written out.new) (S.failed source.old) (S.failed source.new)
+        (S.faults source.old) (S.faults source.new) }
     ensures content { S.content source.new ≡ S.content source.old }
-    ensures fetches { FetchesAtMost result (S.fetched source.old) (S.fetched source.new) (running_in (views_by views.old.items)) (running_in (views_by views.new.items)) (begin_in (line_command line.now)) }
+    ensures fetches { FetchesAtMost result (S.fetched source.old) (S.fetched source.new)
+        (running_in (views_by views.old.items)) (running_in (views_by views.new.items))
+        (begin_in (line_command line.now)) }
     ensures cause { HasCause (W.faults out.old) (W.faults out.new) (result ≡ Err Stop.Write) }
     ensures input { result ≢ Err Stop.Input }
 {

@@ -173,7 +173,8 @@ fn is_request(view: &[u8], url: &[u8], sig: &[u8]) -> bool
 // What a load with these words asks for, if each of them is one that its place takes.
 fn request_of<'a>(words: &[&'a [u8]]) -> Option<Request<'a>>
     requires count { 8 ≤ length words.now }
-    requires request { is_request (word (map (λ w. w.now) words.now) 1) (word (map (λ w. w.now) words.now) 2) (word (map (λ w. w.now) words.now) 3) ≡ true }
+    requires request { is_request (word (map (λ w. w.now) words.now) 1)
+        (word (map (λ w. w.now) words.now) 2) (word (map (λ w. w.now) words.now) 3) ≡ true }
     ensures key { option_map request_key result ≡ key_of (map (λ w. w.now) words.now) }
     ensures view { IfSome result (λ request. request.view.now ≡ word (map (λ w. w.now) words.now) 1) }
 {
@@ -265,7 +266,7 @@ fn trimmed(line: &[u8]) -> &[u8]
     ensures { result.now ≡ trimmed line.now }
 {
     match line.strip_suffix(b"\r".as_slice()) {
-        Some(front) => front,
+        Some(prefix) => prefix,
         None => line,
     }
 }

@@ -1,4 +1,5 @@
-// Whole runs over objects in memory. The bytes and statuses are worked by hand from the rules of docs/SCRIPT.md.
+// Whole runs over objects in memory. The bytes and statuses are worked by hand from the rules of
+// docs/SCRIPT.md.
 use crate::test_runs::{LINE, NONE, RED, SCRIPT, Wanted, check, check_script, source_of};
 use crate::top::glide_alone;
 use outside::{MemoryInput, MemorySink, Source};
@@ -251,8 +252,8 @@ fn check_sink(
     Ok(())
 }
 
-// Each call of the sink fails in turn, a write a byte and then the flush: what was written before stands, and no status
-// but 6 comes.
+// Each call of the sink fails in turn, a write a byte and then the flush: what was written before stands,
+// and no status but 6 comes.
 fn check_each_failure(
     rt: &impl Abort,
     alloc: Global,

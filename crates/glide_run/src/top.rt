@@ -5,7 +5,7 @@ ghost use Rattle.outside.specs.Causes.{HasCause, Rose};
 ghost use Rattle.outside.specs.Content.{Contents};
 ghost use Rattle.glide_run.specs.Script.{commands};
 ghost use Rattle.glide_run.specs.Walk.{begins_in};
-ghost use Rattle.glide_run.specs.Effects.{WritesFront};
+ghost use Rattle.glide_run.specs.Effects.{WritesPrefix};
 ghost use Rattle.glide_run.specs.Ending.{IsWalk, IsShown, IsStill, IsAnswer, IsRefused, IsOrStops, IsFlushed, usage_text, ending_text, ended_status};
 
 use crate::obeying::obey_script;
@@ -27,7 +27,7 @@ pub struct Ending<F> {
 fn finish<W: Sink>(out: &mut W, text: &[u8], status: u8) -> u8
     requires { status ≤ 3 }
     ensures status { IsOrStops status result }
-    ensures bytes { WritesFront (W.written out.old) (W.written out.new) text.now (result ≤ 3) }
+    ensures bytes { WritesPrefix (W.written out.old) (W.written out.new) text.now (result ≤ 3) }
     ensures flushed { result ≤ 3 → IsFlushed (W.written out.new) (W.flushed out.new) }
     ensures cause { HasCause (W.faults out.old) (W.faults out.new) (result ≡ 6) }
 {
@@ -46,7 +46,8 @@ fn finish<W: Sink>(out: &mut W, text: &[u8], status: u8) -> u8
 // Writes the number of the bad line, if one is, and answers the status.
 fn end<W: Sink>(alloc: Global, out: &mut W, ended: Ended) -> u8
     ensures status { IsOrStops (ended_status ended) result }
-    ensures bytes { WritesFront (W.written out.old) (W.written out.new) (ending_text ended.bad) (result ≤ 3) }
+    ensures bytes { WritesPrefix (W.written out.old) (W.written out.new) (ending_text ended.bad)
+        (result ≤ 3) }
     ensures flushed { result ≤ 3 → IsFlushed (W.written out.new) (W.flushed out.new) }
     ensures cause { HasCause (W.faults out.old) (W.faults out.new) (result ≡ 6) }
 {
@@ -66,10 +67,14 @@ fn run<S: Source, I: Input, W: Sink>(
     out: &mut W,
     source: &mut S,
 ) -> u8
-    ensures walk { (script : List ℕ) → I.left input.old ≡ Some script → (content : Contents) → S.content source.old ≡ Some content
-        → IsWalk content (commands script) result (W.written out.old) (W.written out.new) (S.failed source.old) (S.failed source.new) (S.faults source.old) (S.faults source.new) }
-    ensures shown { IsShown (S.content source.old) (option_map commands (I.left input.old)) result (W.written out.old) (W.written out.new) (S.faults source.old) (S.faults source.new) }
-    ensures fetches { (script : List ℕ) → I.left input.old ≡ Some script → S.fetched source.new ≤ S.fetched source.old + begins_in (commands script) }
+    ensures walk { (script : List ℕ) → I.left input.old ≡ Some script → (content : Contents)
+        → S.content source.old ≡ Some content
+        → IsWalk content (commands script) result (W.written out.old) (W.written out.new)
+        (S.failed source.old) (S.failed source.new) (S.faults source.old) (S.faults source.new) }
+    ensures shown { IsShown (S.content source.old) (option_map commands (I.left input.old)) result
+        (W.written out.old) (W.written out.new) (S.faults source.old) (S.faults source.new) }
+    ensures fetches { (script : List ℕ) → I.left input.old ≡ Some script
+        → S.fetched source.new ≤ S.fetched source.old + begins_in (commands script) }
     ensures status { (result ≤ 6) }
     ensures usage { result ≢ 2 }
     ensures flushed { result ≤ 3 → IsFlushed (W.written out.new) (W.flushed out.new) }
@@ -92,13 +97,20 @@ fn run_words<S: Source, I: Input, W: Sink>(
     out: &mut W,
     source: &mut S,
 ) -> u8
-    ensures walk { words.now ≡ [] → (script : List ℕ) → I.left input.old ≡ Some script → (content : Contents) → S.content source.old ≡ Some content
-        → IsWalk content (commands script) result (W.written out.old) (W.written out.new) (S.failed source.old) (S.failed source.new) (S.faults source.old) (S.faults source.new) }
-    ensures complete { words.now ≡ [] → (script : List ℕ) → I.left input.old ≡ Some script → (content : Contents) → S.content source.old ≡ Some content
-        → IsStill (I.faults input.old) (I.faults input.new) → IsStill (W.faults out.old) (W.faults out.new) → IsStill (S.faults source.old) (S.faults source.new)
+    ensures walk { words.now ≡ [] → (script : List ℕ) → I.left input.old ≡ Some script
+        → (content : Contents) → S.content source.old ≡ Some content
+        → IsWalk content (commands script) result (W.written out.old) (W.written out.new)
+        (S.failed source.old) (S.failed source.new) (S.faults source.old) (S.faults source.new) }
+    ensures complete { words.now ≡ [] → (script : List ℕ) → I.left input.old ≡ Some script
+        → (content : Contents) → S.content source.old ≡ Some content
+        → IsStill (I.faults input.old) (I.faults input.new) → IsStill (W.faults out.old) (W.faults out.new)
+        → IsStill (S.faults source.old) (S.faults source.new)
         → IsAnswer content (commands script) result (W.written out.old) (W.written out.new) }
-    ensures shown { words.now ≡ [] → IsShown (S.content source.old) (option_map commands (I.left input.old)) result (W.written out.old) (W.written out.new) (S.faults source.old) (S.faults source.new) }
-    ensures fetches { words.now ≡ [] → (script : List ℕ) → I.left input.old ≡ Some script → S.fetched source.new ≤ S.fetched source.old + begins_in (commands script) }
+    ensures shown { words.now ≡ [] → IsShown (S.content source.old)
+        (option_map commands (I.left input.old)) result (W.written out.old) (W.written out.new)
+        (S.faults source.old) (S.faults source.new) }
+    ensures fetches { words.now ≡ [] → (script : List ℕ) → I.left input.old ≡ Some script
+        → S.fetched source.new ≤ S.fetched source.old + begins_in (commands script) }
     ensures usage { words.now ≢ [] → IsRefused result (W.written out.old) (W.written out.new) }
     ensures unread { words.now ≢ [] → (input.new ≡ input.old) × (source.new ≡ source.old) }
     ensures refused { result ≡ 2 → words.now ≢ [] }
@@ -128,17 +140,26 @@ pub fn glide_alone<S: Source, F, I: Input, W: Sink>(
     source: &mut S,
     files: F,
 ) -> Ending<F>
-    // The bytes written are the walk of the script with the content under marks that failed fetches license, and the status is the walk's, on status 0 to 3; on 4 to 6 a front of them was written.
-    ensures walk { words.now ≡ [] → (script : List ℕ) → I.left input.old ≡ Some script → (content : Contents) → S.content source.old ≡ Some content
-        → IsWalk content (commands script) result.status (W.written out.old) (W.written out.new) (S.failed source.old) (S.failed source.new) (S.faults source.old) (S.faults source.new) }
+    // The bytes written are the walk of the script with the content under marks that failed fetches
+    // license, and the status is the walk's, on status 0 to 3; on 4 to 6 a prefix of them was written.
+    ensures walk { words.now ≡ [] → (script : List ℕ) → I.left input.old ≡ Some script
+        → (content : Contents) → S.content source.old ≡ Some content
+        → IsWalk content (commands script) result.status (W.written out.old) (W.written out.new)
+        (S.failed source.old) (S.failed source.new) (S.faults source.old) (S.faults source.new) }
     // Where no count of faults rose, there are no marks: all of the walk was written, or memory was wanting.
-    ensures complete { words.now ≡ [] → (script : List ℕ) → I.left input.old ≡ Some script → (content : Contents) → S.content source.old ≡ Some content
-        → IsStill (I.faults input.old) (I.faults input.new) → IsStill (W.faults out.old) (W.faults out.new) → IsStill (S.faults source.old) (S.faults source.new)
+    ensures complete { words.now ≡ [] → (script : List ℕ) → I.left input.old ≡ Some script
+        → (content : Contents) → S.content source.old ≡ Some content
+        → IsStill (I.faults input.old) (I.faults input.new) → IsStill (W.faults out.old) (W.faults out.new)
+        → IsStill (S.faults source.old) (S.faults source.new)
         → IsAnswer content (commands script) result.status (W.written out.old) (W.written out.new) }
-    // With no content told too, the status is that of the lines printed, status 3 stands for the first bad line, and a line blames the source only where its count rose.
-    ensures shown { words.now ≡ [] → IsShown (S.content source.old) (option_map commands (I.left input.old)) result.status (W.written out.old) (W.written out.new) (S.faults source.old) (S.faults source.new) }
+    // With no content known too, the status is that of the lines printed, status 3 stands for the first
+    // bad line, and a line blames the source only where its count rose.
+    ensures shown { words.now ≡ [] → IsShown (S.content source.old)
+        (option_map commands (I.left input.old)) result.status (W.written out.old) (W.written out.new)
+        (S.faults source.old) (S.faults source.new) }
     // A request fetches once at most.
-    ensures fetches { words.now ≡ [] → (script : List ℕ) → I.left input.old ≡ Some script → S.fetched source.new ≤ S.fetched source.old + begins_in (commands script) }
+    ensures fetches { words.now ≡ [] → (script : List ℕ) → I.left input.old ≡ Some script
+        → S.fetched source.new ≤ S.fetched source.old + begins_in (commands script) }
     ensures usage { words.now ≢ [] → IsRefused result.status (W.written out.old) (W.written out.new) }
     ensures unread { words.now ≢ [] → (input.new ≡ input.old) × (source.new ≡ source.old) }
     ensures refused { result.status ≡ 2 → words.now ≢ [] }

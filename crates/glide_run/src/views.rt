@@ -34,7 +34,8 @@ fn is_named(view: &View, name: &[u8]) -> bool
 /// The view of this name.
 pub fn find<'a>(views: &'a [View], name: &[u8]) -> Option<&'a View>
     ensures { MatchOption result (has_name name.now (names_of (views_by views.now)) ≡ false)
-        (λ view. (has_name name.now (names_of (views_by views.now)) ≡ true) × (named name.now (views_by views.now) ≡ view_by view.now ∷ [])) }
+        (λ view. (has_name name.now (names_of (views_by views.now)) ≡ true)
+        × (named name.now (views_by views.now) ≡ view_by view.now ∷ [])) }
 {
     for view in views {
         if is_named(view, name) {
@@ -44,7 +45,7 @@ pub fn find<'a>(views: &'a [View], name: &[u8]) -> Option<&'a View>
     None
 }
 
-/// Puts a view in the place of the one of its name, or behind all.
+/// Puts a view in the place of the one of its name, or after all.
 pub fn put(views: &mut Vec<View>, view: View) -> Result<(), AllocError>
     ensures { OnOk result (views_by views.new.items ≡ put_view (view_by view) (views_by views.old.items)) }
 {

@@ -5,7 +5,7 @@ use Rattle.std.specs.declared.option.Option.{Option}
 use Rattle.std.specs.Option.{is_none}
 use Rattle.std.specs.Ordering.{nat_cmp, is_lt}
 use Rattle.std.specs.FinMap.{get, from_sorted, is_sorted, nat_cmp-IsAntisymmetric}
-use Rattle.std.proofs.lemmas.Bool.{eqb-true, eqb-false, eq-eqb}
+use Rattle.std.proofs.lemmas.Bool.{eqb-true, eqb-false, eq-eqb, and_parts, and_from}
 use Rattle.std.proofs.lemmas.Cmp.{nat_cmp_total}
 use Rattle.std.proofs.lemmas.Map.Keys.{ge_from_not_lt}
 use Rattle.cache_key.specs.Key.{Key, same_key}
@@ -18,18 +18,6 @@ use Rattle.job_table.specs.declared.jobs.Job.{Job}
 use Rattle.job_table.specs.inside.Entries.{queued_among, next_among}
 use Rattle.job_table.specs.Jobs.{Jobs, same_kind, serves, job_for, IsJobFor, is_queued, queued_in, rank, is_queued_at, queued_at, or_else, next_queued, Precedes, IsNext}
 use Rattle.job_table.specs.JobTableView.{OneOfEach}
-
-and_left : (a b : Bool) → (a && b) ≡ true → a ≡ true
-and_left true b e = refl
-and_left false b e = e
-
-and_right : (a b : Bool) → (a && b) ≡ true → b ≡ true
-and_right true b e = e
-and_right false b e = cc
-
-and_both : (a b : Bool) → a ≡ true → b ≡ true → (a && b) ≡ true
-and_both true b e f = f
-and_both false b e f = e
 
 kind_is : (a b : Bool) → same_kind a b ≡ true → a ≡ b
 kind_is true true e = refl
@@ -58,7 +46,7 @@ KeyLaw = (a b : Key) → IsTrue (same_key a b) ↔ (a ≡ b)
 
 module _ (law : KeyLaw) (key : Key) (cached : Bool) where
   pub serves_by : (job : Job) → job.spec.key ≡ key → job.spec.cached ≡ cached → job.cancelled ≡ false → serves key cached job ≡ true
-  serves_by job k c w = and_both _ _ (and_both _ _ ((law job.spec.key key).1 k) (kind_itself job.spec.cached cached c)) (ap not w)
+  serves_by job k c w = and_from _ _ (and_from _ _ ((law job.spec.key key).1 k) (kind_itself job.spec.cached cached c)) (ap not w)
 
   it_serves : (jobs : Jobs) (number : ℕ) → IsJobFor key cached jobs number → (job : Job) × (get jobs number ≡ Some job) × (serves key cached job ≡ true)
   it_serves jobs number it = (it.job, it.live, serves_by it.job it.same_key it.same_kind it.wanted)
@@ -67,9 +55,9 @@ module _ (law : KeyLaw) (key : Key) (cached : Bool) where
   serves_it jobs number job live is = record {
     job = job;
     live = live;
-    same_key = (law job.spec.key key).0 (and_left _ _ (and_left _ _ is));
-    same_kind = kind_is job.spec.cached cached (and_right _ _ (and_left _ _ is));
-    wanted = not_true _ (and_right _ _ is);
+    same_key = (law job.spec.key key).0 (and_parts _ _ (and_parts _ _ is).0).0;
+    same_kind = kind_is job.spec.cached cached (and_parts _ _ (and_parts _ _ is).0).1;
+    wanted = not_true _ (and_parts _ _ is).1;
   }
 
   found_is : (jobs : Jobs) (number : ℕ) → job_for key cached jobs ≡ Some number → IsJobFor key cached jobs number
@@ -113,7 +101,7 @@ module _ (jobs : Jobs) where
   none_at : (priority : Priority) (other : ℕ) (rival : Job) → queued_at priority jobs ≡ None → get jobs other ≡ Some rival → is_queued rival ≡ true → rank rival.spec.priority ≢ rank priority
   none_at priority other rival none live queued same =
       contrary (first_key-none nat_cmp_total nat_cmp-IsAntisymmetric (λ n job. is_queued_at priority job) jobs other rival none live)
-      (and_both _ _ queued (eq-eqb (rank rival.spec.priority) (rank priority) same))
+      (and_from _ _ queued (eq-eqb (rank rival.spec.priority) (rank priority) same))
 
   -- the first that is found at a priority, where no queued job has a lesser one
   found_at : (priority : Priority) (number : ℕ) → queued_at priority jobs ≡ Some number
@@ -123,17 +111,17 @@ module _ (jobs : Jobs) where
       let found = first_key-found nat_cmp_total nat_cmp-IsAntisymmetric p jobs number first in
       let among = first_key-least nat_cmp_total nat_cmp-IsAntisymmetric p jobs number first in
       let job : Job = found.0 in
-      let same : rank job.spec.priority ≡ rank priority = eqb-true _ _ (and_right (is_queued job) _ found.2) in
+      let same : rank job.spec.priority ≡ rank priority = eqb-true _ _ (and_parts (is_queued job) _ found.2).1 in
       record {
         job = job;
         live = found.1;
-        queued = and_left _ _ found.2;
+        queued = (and_parts _ _ found.2).0;
         first = λ other rival live queued.
             let reaches : rank priority ≤ rank rival.spec.priority = least other rival live queued in
             elim (eqb (rank rival.spec.priority) (rank priority)) as (λ t. eqb (rank rival.spec.priority) (rank priority) ≡ t → Precedes job.spec.priority number rival.spec.priority other) [
               | true ↦ λ ties.
                   let tied : rank rival.spec.priority ≡ rank priority = eqb-true _ _ ties in
-                  let later : number ≤ other = ge_from_not_lt other number (among.1 other (ap (passes p other) live ∙ and_both _ _ queued ties)) in
+                  let later : number ≤ other = ge_from_not_lt other number (among.1 other (ap (passes p other) live ∙ and_from _ _ queued ties)) in
                   inr (same ∙ sym tied, later)
               | false ↦ λ apart.
                   let ne : rank rival.spec.priority ≢ rank priority = eqb-false _ _ apart in

@@ -27,20 +27,20 @@ pub returns-in-Err-clause-gives : goal.returns-in-Err-clause-gives
 returns-in-Err-clause-gives g c = ends_before _ _ _ _ _ _ _ _ _ _ _ _ _ _ _ c.lines.invariant.so_far
 
 pub returns-in-Err-clause-fetches : goal.returns-in-Err-clause-fetches
-returns-in-Err-clause-fetches g c = λ script told. fetches_before _ _ _ _ _ _ _ _ _ _ _ _ _ _ (commands script) (ap (option_map commands) told) c.lines.invariant.so_far
+returns-in-Err-clause-fetches g c = λ script known. fetches_before _ _ _ _ _ _ _ _ _ _ _ _ _ _ (commands script) (ap (option_map commands) known) c.lines.invariant.so_far
 
 pub returns-in-End-clause-gives : goal.returns-in-End-clause-gives
 returns-in-End-clause-gives g c = ends_done _ _ _ _ _ _ _ _ _ _ _ _ _ _ c.lines.invariant.so_far (next_end c.in-Ok.next _ _ _ c.in-End.is c.in-Ok.ensures.next)
 
 pub returns-in-End-clause-fetches : goal.returns-in-End-clause-fetches
-returns-in-End-clause-fetches g c = λ script told. fetches_before _ _ _ _ _ _ _ _ _ _ _ _ _ _ (commands script) (ap (option_map commands) told) c.lines.invariant.so_far
+returns-in-End-clause-fetches g c = λ script known. fetches_before _ _ _ _ _ _ _ _ _ _ _ _ _ _ (commands script) (ap (option_map commands) known) c.lines.invariant.so_far
 
 pub returns-in-TooLong-clause-gives : goal.returns-in-TooLong-clause-gives
 returns-in-TooLong-clause-gives g c =
     ends_bad _ _ _ _ _ Bad _ _ _ _ _ _ _ _ _ _ _ _ c.lines.invariant.so_far (next_long c.in-Ok.next _ _ _ c.in-TooLong.is c.in-Ok.ensures.next) tt (Appends-nil _) (gains_none _ _ _)
 
 pub returns-in-TooLong-clause-fetches : goal.returns-in-TooLong-clause-fetches
-returns-in-TooLong-clause-fetches g c = λ script told. fetches_before _ _ _ _ _ _ _ _ _ _ _ _ _ _ (commands script) (ap (option_map commands) told) c.lines.invariant.so_far
+returns-in-TooLong-clause-fetches g c = λ script known. fetches_before _ _ _ _ _ _ _ _ _ _ _ _ _ _ (commands script) (ap (option_map commands) known) c.lines.invariant.so_far
 
 pub returns-in-Err-obey_line-clause-gives : goal.returns-in-Err-obey_line-clause-gives
 returns-in-Err-obey_line-clause-gives g c =
@@ -52,7 +52,7 @@ returns-in-Err-obey_line-clause-gives g c =
 pub returns-in-Err-obey_line-clause-fetches : goal.returns-in-Err-obey_line-clause-fetches
 returns-in-Err-obey_line-clause-fetches g c =
     let has = next_has c.in-Ok.next _ c.line.result.now _ _ c.line.ensures c.in_default.not-End c.in_default-next.not-TooLong c.in-Ok.ensures.next in
-    λ script told. fetches_past _ _ _ _ _ (line_command c.line.result.now) _ _ _ _ _ _ _ _ _ _ (commands script) (ap (option_map commands) told) c.lines.invariant.so_far has c.in-Err-obey_line.ensures.fetches
+    λ script known. fetches_past _ _ _ _ _ (line_command c.line.result.now) _ _ _ _ _ _ _ _ _ _ (commands script) (ap (option_map commands) known) c.lines.invariant.so_far has c.in-Err-obey_line.ensures.fetches
 
 pub returns-in-Err-obey_line-clause-sink : goal.returns-in-Err-obey_line-clause-sink
 returns-in-Err-obey_line-clause-sink g c = record {
@@ -70,7 +70,7 @@ returns-in-Ok-Bad-clause-gives g c =
 pub returns-in-Ok-Bad-clause-fetches : goal.returns-in-Ok-Bad-clause-fetches
 returns-in-Ok-Bad-clause-fetches g c =
     let has = next_has c.in-Ok.next _ c.line.result.now _ _ c.line.ensures c.in_default.not-End c.in_default-next.not-TooLong c.in-Ok.ensures.next in
-    λ script told. fetches_past _ _ _ _ _ (line_command c.line.result.now) _ _ _ _ _ _ _ _ _ _ (commands script) (ap (option_map commands) told) c.lines.invariant.so_far has (omega (arith, c.in-Ok-Bad.ensures.fetches))
+    λ script known. fetches_past _ _ _ _ _ (line_command c.line.result.now) _ _ _ _ _ _ _ _ _ _ (commands script) (ap (option_map commands) known) c.lines.invariant.so_far has (omega (arith, c.in-Ok-Bad.ensures.fetches))
 
 pub returns-in-Last-clause-gives : goal.returns-in-Last-clause-gives
 returns-in-Last-clause-gives g c =
@@ -83,7 +83,7 @@ returns-in-Last-clause-gives g c =
 pub returns-in-Last-clause-fetches : goal.returns-in-Last-clause-fetches
 returns-in-Last-clause-fetches g c =
     let has = next_has c.in-Ok.next _ c.line.result.now _ _ c.line.ensures c.in_default.not-End c.in_default-next.not-TooLong c.in-Ok.ensures.next in
-    λ script told. fetches_past _ _ _ _ _ (line_command c.line.result.now) _ _ _ _ _ _ _ _ _ _ (commands script) (ap (option_map commands) told) c.lines.invariant.so_far has (omega (arith, c.in-Ok-Done.ensures.fetches))
+    λ script known. fetches_past _ _ _ _ _ (line_command c.line.result.now) _ _ _ _ _ _ _ _ _ _ (commands script) (ap (option_map commands) known) c.lines.invariant.so_far has (omega (arith, c.in-Ok-Done.ensures.fetches))
 
 pub lines-preserved : goal.lines-preserved
 lines-preserved g c =

@@ -19,7 +19,7 @@ loop-at-preserved g c =
 pub returns-in-Err-clause-bytes : goal.returns-in-Err-clause-bytes
 returns-in-Err-clause-bytes g c =
     record {
-      front = take c.loop-at.at c.args.bytes.now;
+      prefix = take c.loop-at.at c.args.bytes.now;
       rest = drop c.loop-at.at c.args.bytes.now;
       parts = sym (take-append-drop c.loop-at.at c.args.bytes.now);
       added = Appends-kept _ _ _ _ c.loop-at.invariant.added c.in-Err.ensures.bytes;

@@ -32,7 +32,7 @@ returns-in-Err-clause-bytes g c =
     let old = g.W.Sink.written c.args.out.now in
     let mid = g.W.Sink.written c.loop-view.out in
     let new = g.W.Sink.written c.write_line.new.out in
-    let front = views_text form (take i views) in
+    let prefix = views_text form (take i views) in
     let line = line_text (line_as form (view_by view)) in
-    let wrote = wrote_front old new (front ++ line) (views_text form (drop (i + 1) views)) _ (wrote_more old mid new front line _ c.loop-view.invariant.added c.in-Err.ensures.bytes) in
+    let wrote = wrote_front old new (prefix ++ line) (views_text form (drop (i + 1) views)) _ (wrote_more old mid new prefix line _ c.loop-view.invariant.added c.in-Err.ensures.bytes) in
     wrote_as old new _ (views_text form views) _ (sym (text_around form views i view c.loop-view-test.true c.view-item.is)) wrote
