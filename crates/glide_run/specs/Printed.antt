@@ -13,8 +13,8 @@ use Rattle.bmp_read.specs.declared.fault.BmpFault.{BmpFault}
 use Rattle.bmp_read.specs.declared.fault.BmpFault.TheVariants as bmp_faults
 use Rattle.image_format.specs.declared.refusal.Refusal.{Refusal}
 use Rattle.image_format.specs.declared.refusal.Refusal.TheVariants as refusals
-use Rattle.glide_run.specs.declared.causes.Cause.{Cause}
-use Rattle.glide_run.specs.declared.causes.Cause.TheVariants.{Missing, Refused, Source, Memory, Uncached}
+use Rattle.load_cause.specs.declared.causes.Cause.{Cause}
+use Rattle.load_cause.specs.declared.causes.Cause.TheVariants.{Missing, Refused, Source, Memory, Uncached}
 use Rattle.glide_run.specs.Views.{State, Running, Complete, Failed, Seen}
 
 -- why a text has no picture, in the words of the Netpbm reader's faults

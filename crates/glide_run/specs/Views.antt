@@ -6,8 +6,8 @@ use Rattle.std.specs.declared.option.Option.{Option}
 use Rattle.std.specs.Str.{bytes_eq}
 use Rattle.bitmap_kind.specs.Picture.{Picture}
 use Rattle.cache_key.specs.Key.{Key}
-use Rattle.glide_run.specs.declared.causes.Cause.{Cause}
-use Rattle.glide_run.specs.declared.causes.Cause.TheVariants.{Missing, Refused}
+use Rattle.load_cause.specs.declared.causes.Cause.{Cause}
+use Rattle.load_cause.specs.declared.causes.Cause.TheVariants.{Missing, Refused}
 use Rattle.image_format.specs.declared.refusal.Refusal.{Refusal}
 use Rattle.image_format.specs.Pictures.{picture_of}
 

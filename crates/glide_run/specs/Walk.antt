@@ -8,7 +8,7 @@ use Rattle.std.specs.FinMap.{get}
 use Rattle.outside.specs.Content.{Address, Contents}
 use Rattle.cache_key.specs.Key.{Key, same_key}
 use Rattle.glide_run.specs.Script.{Command, Nothing, Bad, Load, Dump, Show}
-use Rattle.glide_run.specs.declared.causes.Cause.TheVariants.{Source}
+use Rattle.load_cause.specs.declared.causes.Cause.TheVariants.{Source}
 use Rattle.glide_run.specs.Views.{State, Running, Complete, Failed, View, seen, fetched, names_of, has_name, can_name, with_name, named, put_view}
 use Rattle.cache_key.specs.KeyBytes.{address_of}
 use Rattle.glide_run.specs.Printed.{Pixels, Digest, PrintedLine, lines_as, run_text, says_failed}

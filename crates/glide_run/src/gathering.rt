@@ -10,11 +10,11 @@ ghost use Rattle.glide_run.specs.Effects.{Gains};
 ghost use Rattle.glide_run.specs.Run.{Ends, Settles, Gathers, running_at, running_in};
 ghost use Rattle.glide_run.specs.CodeTypes.{state_by, view_by, views_by};
 
-use crate::causes::Cause;
 use crate::views::{View, ViewState};
 use bitmap_kind::Bitmap;
 use cache_key::EngineKey;
 use image_format::{DecodeFault, decode_into, plan_of};
+use load_cause::Cause;
 use outside::{FetchFault, NoMemory, Source};
 use std::alloc::Global;
 use transforms::{kept_size_moves_nothing, transform};

@@ -1,7 +1,6 @@
 // Obeys a script of `load`, `dump` and `show` lines.
 #![tactic(auto)]
 
-mod causes;
 mod gathering;
 mod obeying;
 mod printing;

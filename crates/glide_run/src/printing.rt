@@ -8,11 +8,11 @@ ghost use Rattle.glide_run.specs.Printed.{ppm_text, bmp_text, refusal_text, caus
 ghost use Rattle.glide_run.specs.Effects.{WritesPrefix};
 ghost use Rattle.glide_run.specs.CodeTypes.{state_by, view_by, views_by, form_by};
 
-use crate::causes::Cause;
 use crate::views::{View, ViewState};
 use bitmap_kind::{Bitmap, Config};
 use bmp_read::BmpFault;
 use image_format::Refusal;
+use load_cause::Cause;
 use outside::{Sink, WriteFault};
 use ppm_read::PpmFault;
 use sha2::{Digest, Sha256};

@@ -4,9 +4,9 @@ ghost use Rattle.std.specs.Str.{bytes_eq};
 ghost use Rattle.glide_run.specs.Views.{names_of, has_name, named, put_view};
 ghost use Rattle.glide_run.specs.CodeTypes.{view_by, views_by};
 
-use crate::causes::Cause;
 use bitmap_kind::Bitmap;
 use cache_key::{EngineKey, Text};
+use load_cause::Cause;
 use std::alloc::AllocError;
 
 /// What became of a view's request.
