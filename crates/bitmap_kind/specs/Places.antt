@@ -31,6 +31,6 @@ length-pieces f n [] each = sym (zero-mul n)
 length-pieces f n (x ∷ xs) each =
     length-append (f x) (flat_map f xs)
     ∙ (λ i. each 0 0 (omega arith) i + length-pieces f n xs (λ k d lt.
-        let next : get_or (x ∷ xs) (k + 1) d ≡ get_or xs k d = rw add-one refl in
-        rw (← next) (each (k + 1) d (omega arith))) i)
+    let next : get_or (x ∷ xs) (k + 1) d ≡ get_or xs k d = rw add-one refl in
+    rw (← next) (each (k + 1) d (omega arith))) i)
     ∙ omega (arith, suc-mul (length xs) n)

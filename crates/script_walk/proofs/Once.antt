@@ -12,7 +12,7 @@ use Rattle.request_tracker.specs.declared.views.ViewState.TheVariants.{Cleared, 
 use Rattle.request_tracker.specs.Table.{has_size, begins, turned, request, collected}
 use Rattle.request_tracker.specs.Moves.{Move, act_move}
 use Rattle.load_cause.specs.declared.causes.Cause.{Cause}
-use Rattle.script_walk.specs.Printed.{PrintedLine}
+use Rattle.printed_lines.specs.Printed.{PrintedLine}
 use Rattle.script_walk.specs.Starts.{one_if}
 use Rattle.script_lines.specs.Script.{Numbered}
 use Rattle.script_walk.specs.Walk.{Begin, WalkView, Outcome, Form, TraceEvent, Dropped, Begun, Ended, Trimmed, Printed, Stage, begin_by, held, all_held, dropped_by, moved_view, move_events, drop_events, begin_events, each_move, running, running_in, ended, end_events, view_ends, gathered, gather_events, view_line, printed, print_events, names_of, names_in, can_obey, Effect, Moves, Gathers, Trims, effect, after_effect, step, every, closing, stay, then_step, walk, trace, opening}

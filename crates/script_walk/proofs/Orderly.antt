@@ -14,7 +14,7 @@ use Rattle.request_tracker.specs.declared.views.ViewState.TheVariants.{Cleared, 
 use Rattle.request_tracker.specs.Table.{has_hold, has_size, drops, begins, turned, request, collected}
 use Rattle.request_tracker.specs.Moves.{Move, act_move}
 use Rattle.load_cause.specs.declared.causes.Cause.{Cause}
-use Rattle.script_walk.specs.Printed.{PrintedLine}
+use Rattle.printed_lines.specs.Printed.{PrintedLine}
 use Rattle.script_lines.specs.Script.{Numbered}
 use Rattle.script_walk.specs.Walk.{Begin, WalkView, Outcome, Form, TraceEvent, Stage, opening, begin_by, held, all_held, dropped_by, moved_view, drop_events, begin_events, each_move, running, running_in, ended, end_events, view_ends, gathered_view, gathered, gather_events, view_line, printed, print_events, has_name, names_of, Names, NoView, Known, Made, names_in, can_obey, Effect, Moves, Gathers, Trims, effect, after_effect, step, every, closing, stay, then_step, walk, trace}
 use Rattle.script_walk.specs.Ends.{names_after}

@@ -4,7 +4,7 @@ use Rattle.std.specs.declared.option.Option.{Option}
 use Rattle.std.specs.List.{list_any}
 use Rattle.std.specs.Option.{option_or}
 use Rattle.script_lines.specs.Script.{Numbered, Script}
-use Rattle.script_walk.specs.Printed.{PrintedLine, says_failed, run_text}
+use Rattle.printed_lines.specs.Printed.{PrintedLine, says_failed, run_text}
 use Rattle.script_walk.specs.Walk.{Outcome, TraceEvent, Printed, Names, NoView, Known, Made, has_name, names_in, can_obey, trace}
 
 -- the lines that are printed

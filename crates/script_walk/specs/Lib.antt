@@ -1,4 +1,3 @@
-pub mod Printed
 pub mod Walk
 pub mod Ends
 pub mod Marks

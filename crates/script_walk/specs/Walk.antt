@@ -20,7 +20,7 @@ use Rattle.load_cause.specs.declared.causes.Cause.{Cause}
 use Rattle.script_lines.specs.declared.commands.Command.{Command}
 use Rattle.script_lines.specs.declared.commands.Command.TheVariants.{Load, Layout, Clear, ClearAll, Pause, PauseAll, Resume, Trim, Wait, Show, Dump}
 use Rattle.script_lines.specs.Script.{Numbered}
-use Rattle.script_walk.specs.Printed.{PrintedLine, PixelsLine, ShownLine, FailedLine, WaitingLine, PausedLine, ClearedLine}
+use Rattle.printed_lines.specs.Printed.{PrintedLine, PixelsLine, ShownLine, FailedLine, WaitingLine, PausedLine, ClearedLine}
 
 -- ---- begins and what they come to
 

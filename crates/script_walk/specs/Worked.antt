@@ -15,7 +15,7 @@ use Rattle.script_lines.specs.declared.commands.Command.TheVariants.{Load, Clear
 use Rattle.script_lines.specs.declared.commands.Line.{Line}
 use Rattle.script_lines.specs.declared.commands.Line.TheVariants.{Says}
 use Rattle.script_lines.specs.Script.{Script, script_from}
-use Rattle.script_walk.specs.Printed.{PrintedLine, PixelsLine, ShownLine}
+use Rattle.printed_lines.specs.Printed.{PrintedLine, PixelsLine, ShownLine}
 use Rattle.script_walk.specs.Walk.{Begin, trace}
 use Rattle.script_walk.specs.Ends.{lines_in, bad_line, exit_status}
 use Rattle.script_walk.specs.Marks.{Marks, no_marks, Source, KeyResults, outcome_of, begins_in}

@@ -4,8 +4,9 @@
 mod laws;
 
 pub use laws::{
-    a_tracker_makes_the_moves, ends_decide_the_walk, moves_go_by_place, no_marks_no_failures, no_more_ends_than_begins,
-    runs_are_marked_walks, traces_are_orderly, walks_go_on, walks_stop_at_the_first_bad_command,
+    a_tracker_makes_the_moves, ends_decide_the_walk, moves_go_by_place, no_marks_no_failures,
+    no_more_ends_than_begins, runs_are_marked_walks, traces_are_orderly, walks_go_on,
+    walks_stop_at_the_first_bad_command,
 };
 
 #[cfg(test)]

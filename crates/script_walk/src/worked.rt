@@ -3,13 +3,10 @@ ghost use Rattle.std.specs.Prelude.{◌≡◌, [], ◌∷◌, ◌++◌, Some, No
 ghost use Rattle.load_cause.specs.declared.causes.Cause.TheVariants as causes;
 ghost use Rattle.script_lines.specs.declared.commands.Command.TheVariants.{Load, Layout, Clear, ClearAll, Pause, PauseAll, Resume, Trim, Wait, Show, Dump};
 ghost use Rattle.script_lines.specs.declared.commands.Line.TheVariants.{Says, Empty, Unreadable};
-ghost use Rattle.script_walk.specs.Printed.{FailedLine, WaitingLine, PausedLine, ClearedLine, PixelsLine, ShownLine, line_text, bad_line_text};
-ghost use Rattle.ppm_read.specs.declared.fault.PpmFault.TheVariants as ppm_faults;
-ghost use Rattle.bmp_read.specs.declared.fault.BmpFault.TheVariants as bmp_faults;
-ghost use Rattle.image_format.specs.declared.refusal.Refusal.TheVariants as refusals;
+ghost use Rattle.printed_lines.specs.Printed.{FailedLine, WaitingLine, PausedLine, ClearedLine};
 ghost use Rattle.script_walk.specs.Walk.{Known, Made, can_obey};
 ghost use Rattle.script_walk.specs.Marks.{no_marks};
-ghost use Rattle.script_walk.specs.Worked.{a, b, red, load, load_skip, load_cached, red_a, red_b, none_a, sizeless_a, says, Gives, Prints, Asks, EndsWith, shown, dumped, eight, first_fails, names_up_to, abc, ended};
+ghost use Rattle.script_walk.specs.Worked.{a, b, load, load_skip, load_cached, red_a, red_b, none_a, sizeless_a, says, Gives, Prints, Asks, EndsWith, shown, dumped, eight, first_fails, names_up_to};
 
 // A picture, a refusal, two loads of one picture, and one shown again.
 fn worked_loads()
@@ -84,22 +81,4 @@ fn worked_ends()
     ensures one_more { can_obey (Made (codes "ab")) (names_up_to 4095) ≡ true }
     ensures too_many { can_obey (Made (codes "ab")) (names_up_to 4096) ≡ false }
     ensures not_new { can_obey (Made (1 ∷ [])) (names_up_to 4096) ≡ true }
-{}
-
-// The texts of lines. The digest is that of `abc` in FIPS 180-4.
-fn worked_texts()
-    ensures pixels { line_text (PixelsLine a red) ≡ ended (codes "a pixels ff0000ff0000ffff") }
-    ensures digest { line_text (ShownLine a abc)
-        ≡ ended (codes "a shown 3 1 alpha ba7816bf8f01cfea414140de5dae2223b00361a396177a9cb410ff61f20015ad") }
-    ensures source { line_text (FailedLine a causes.Source) ≡ ended (codes "a failed source") }
-    ensures unknown { line_text (FailedLine a (causes.Refused refusals.Unknown))
-        ≡ ended (codes "a failed refused unknown") }
-    ensures truncated { line_text (FailedLine a (causes.Refused (refusals.Ppm ppm_faults.Truncated)))
-        ≡ ended (codes "a failed refused truncated") }
-    ensures compressed { line_text (FailedLine a (causes.Refused (refusals.Bmp (bmp_faults.Compressed 1))))
-        ≡ ended (codes "a failed refused compressed 1") }
-    ensures waiting { line_text (WaitingLine a) ≡ ended (codes "a waiting") }
-    ensures paused { line_text (PausedLine a) ≡ ended (codes "a paused") }
-    ensures cleared { line_text (ClearedLine a) ≡ ended (codes "a cleared") }
-    ensures bad_line { bad_line_text 12 ≡ ended (codes "glide: bad script line 12") }
 {}
