@@ -308,7 +308,27 @@ fn same_answer(
     }
 }
 
-// Runs of 100 calls.
+// Whether both start the same jobs until none is queued, and then end the same ones.
+fn same_end(alloc: Global, table: &mut Guarded, list: &mut PlainList) -> Result<bool, Fail> {
+    let mut room = KeyRoom::new(alloc)?;
+    for _ in 0..13 {
+        if table.start_next(0, &mut room) != list.start_next() {
+            return Ok(false);
+        }
+    }
+    for width in 1..7 {
+        let key = key_of(alloc, width)?;
+        if table.end(&key, true) != list.end(width, true) {
+            return Ok(false);
+        }
+        if table.end(&key, false) != list.end(width, false) {
+            return Ok(false);
+        }
+    }
+    Ok(true)
+}
+
+// 100 calls; then each queued job starts, and each that is not cancelled ends, in both.
 fn same_run(alloc: Global, state: &mut u64) -> Result<bool, Fail> {
     let mut table = Guarded::new(alloc)?;
     let mut list = PlainList {
@@ -320,7 +340,7 @@ fn same_run(alloc: Global, state: &mut u64) -> Result<bool, Fail> {
             return Ok(false);
         }
     }
-    Ok(true)
+    same_end(alloc, &mut table, &mut list)
 }
 
 #[test]
