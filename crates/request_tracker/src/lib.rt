@@ -9,4 +9,6 @@ pub use tracker::{Tracker, ViewFault};
 pub use views::{Act, Ask, Order, ViewState};
 
 #[cfg(test)]
+mod tests;
+#[cfg(test)]
 mod worked;
