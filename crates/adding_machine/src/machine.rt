@@ -1,7 +1,8 @@
 // A machine that adds.
 ghost use Rattle.std.specs.Prelude.{◌≡◌, []};
 
-use state_machine::{Append, Entry, Machine, update_snapshot};
+use snapshots::{Append, update_snapshot};
+use state_machine::{Entry, Machine};
 use std::alloc::Global;
 use std::collections::LinkedList;
 use std::marker::Model;

@@ -4,7 +4,7 @@ ghost use Rattle.std.specs.Prelude.{◌≡◌};
 ghost use Rattle.std.specs.FinMap.{empty};
 
 use engine_world::Lent;
-use state_machine::SnapshotUpdate;
+use snapshots::SnapshotUpdate;
 use std::marker::Model;
 use std::snapshot::Snapshot;
 

@@ -24,7 +24,7 @@ use load_cause::Cause;
 use load_table::{LoadState, LoadTable, Settle};
 use memory_cache::Cache;
 use resource_table::ResourceTable;
-use state_machine::update_snapshot;
+use snapshots::update_snapshot;
 use std::alloc::Global;
 use std::marker::Model;
 use std::snapshot::Snapshot;

@@ -4,7 +4,6 @@
 mod entry;
 mod laws;
 mod machine;
-mod snapshots;
 
 pub use entry::Entry;
 pub use laws::{
@@ -12,7 +11,6 @@ pub use laws::{
     own_entries_append, steps_append,
 };
 pub use machine::Machine;
-pub use snapshots::{Append, SnapshotUpdate, update_snapshot};
 
 #[cfg(test)]
 mod tests;

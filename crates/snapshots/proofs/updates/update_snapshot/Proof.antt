@@ -20,10 +20,10 @@ use denote.Signature.{types_at, plain}
 use denote.Steps.{nothing, opens, closes}
 use denote.Triple.Walked.{Stays, walk_of, stay_ref, Goes-ref, stay_dropped, Goes-dropped, ends_at}
 use Rattle.std.specs.contracts.snapshot.Snapshot.{the_row}
-use Rattle.state_machine.specs.contracts.snapshots.update_snapshot.{ended, clauses}
-use Rattle.state_machine.specs.contracts.snapshots.update_snapshot.Key.{name as #self}
-use Rattle.state_machine.proofs.snapshots.update_snapshot.Statement.{statement}
-use Rattle.state_machine.proofs.snapshots.update_snapshot.Code as code
+use Rattle.snapshots.specs.contracts.updates.update_snapshot.{ended, clauses}
+use Rattle.snapshots.specs.contracts.updates.update_snapshot.Key.{name as #self}
+use Rattle.snapshots.proofs.updates.update_snapshot.Statement.{statement}
+use Rattle.snapshots.proofs.updates.update_snapshot.Code as code
 
 pub update_snapshot_spec : {M : Type 1} → statement M
 update_snapshot_spec 𝓤 𝓛 𝓜 𝓡 wired A T C _ _ _ g d _ =
