@@ -13,4 +13,6 @@ pub mod Names
 pub mod RealStreams
 pub mod Stored
 pub mod Texts
+pub mod Told
 pub mod Worked
+pub mod inside

@@ -16,6 +16,7 @@ mod sinks;
 mod sources;
 mod stored;
 mod streams;
+mod told;
 
 pub use faults::{Failed, NoMemory};
 pub use files::{FileFault, Files};
@@ -29,6 +30,7 @@ pub use names::{LONGEST_NAME, Name};
 pub use sinks::{Sink, WriteFault};
 pub use sources::{FetchFault, Source};
 pub use streams::{RealInput, RealSink};
+pub use told::Told;
 
 #[cfg(test)]
 mod files_tests;

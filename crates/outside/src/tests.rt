@@ -4,11 +4,12 @@ ghost use Rattle.std.specs.Prelude.{◌≡◌, ◌∷◌, [], codes, Some, None,
 ghost use Rattle.std.specs.FinMap.{get};
 ghost use Rattle.outside.specs.FolderPath.{is_path};
 ghost use Rattle.outside.specs.Texts.{contents_of};
+ghost use Rattle.outside.specs.Told.{IsToldBy};
 ghost use Rattle.outside.specs.Worked.{red_text};
 
 use crate::{
     Content, Failed, FetchFault, FolderSource, Input, MemoryInput, MemorySink, MemorySource,
-    RealInput, RealSink, Sink, Source, WriteFault,
+    RealInput, RealSink, Sink, Source, Told, WriteFault,
 };
 use std::alloc::{AllocError, Allocator, Global};
 use std::fs::OpenFile;
@@ -35,6 +36,21 @@ fn worked_contents()
         (codes "red", codes "1") ≡ Some (1 ∷ []) }
     ensures missing { get (contents_of (red_text (codes "1") 1 ∷ [])) (codes "red", codes "2") ≡ None }
 {}
+
+// What two sources in memory tell together. It takes no bytes, so that no run shows it.
+fn told_by_two(first: MemorySource, second: MemorySource) -> Told
+    ensures { IsToldBy (Some (contents_of first.texts) ∷ Some (contents_of second.texts) ∷ []) result }
+{
+    Told::of(&[first, second])
+}
+
+#[test]
+fn sources_tell_a_content_together(rt: HostRuntime) {
+    let alloc = rt.alloc();
+    let first = MemorySource::new(Vec::new(alloc), Vec::new(alloc));
+    let second = MemorySource::new(Vec::new(alloc), Vec::new(alloc));
+    let _ = (told_by_two(first, second), Told::nothing());
+}
 
 #[test]
 fn memory_input_fails_at_its_second_call(rt: HostRuntime) -> Result<(), Fail> {
