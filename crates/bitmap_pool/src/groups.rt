@@ -166,8 +166,8 @@ impl Groups {
         total_of(&self.bitmaps)
     }
 
-    // How many bitmaps there are.
-    fn count(&self) -> usize
+    /// How many bitmaps there are.
+    pub fn count(&self) -> usize
         ensures count { result ≡ pool_count self.now }
         ensures few { pool_count self.now ≤ 1025 }
     {

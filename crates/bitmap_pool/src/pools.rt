@@ -3,7 +3,7 @@ ghost use Rattle.std.specs.Prelude.{◌≡◌, ◌*◌, ◌≤◌, [], IfOk, IfS
 ghost use Rattle.std.specs.Option.{option_map};
 ghost use Rattle.bitmap_kind.specs.Picture.{stored_size, IsSize};
 ghost use Rattle.bitmap_pool.specs.Limits.{IsPool};
-ghost use Rattle.bitmap_pool.specs.Pool.{pool_size, pool_trim, put_into, dirty_from, left_from, erased};
+ghost use Rattle.bitmap_pool.specs.Pool.{pool_size, pool_count, pool_trim, put_into, picked_from, dirty_from, left_from, erased};
 
 use crate::groups::Groups;
 use bitmap_kind::{Bitmap, Config};
@@ -63,6 +63,8 @@ impl Pool {
         ensures left { self.new ≡ left_from self.old width height config }
         ensures low { IfSome result (λ b. stored_size width height config ≤ b.allocation) }
         ensures high { IfSome result (λ b. b.allocation ≤ 8 * stored_size width height config) }
+        ensures allocation { IfSome result (λ b.
+            b.allocation ≡ (picked_from self.old width height config).size) }
     {
         let wanted = u64::from(width) * u64::from(height) * config.pixel_bytes() as u64;
         let size = self.groups.serving_size(wanted, config);
@@ -117,5 +119,12 @@ impl Pool {
         let size = self.groups.size();
         prove!(size <= u128::from(self.maximum));
         size as u64
+    }
+
+    /// How many bitmaps there are.
+    pub fn count(&self) -> usize
+        ensures { result ≡ pool_count self.now.groups }
+    {
+        self.groups.count()
     }
 }
