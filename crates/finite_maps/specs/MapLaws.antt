@@ -1,6 +1,8 @@
 -- Laws of finite maps, where only equal keys tie: what is found after a change, how a sum changes, and what the least key is. They are plain mathematics.
 use Rattle.std.proofs.Common.{◌≡◌, ◌≢◌, ℕ, ◌+◌, ◌≤◌, Bool, true, false, cond, List, [], ◌∷◌, map, Some, None, refl, ap, sym, subst, ◌∙◌, inl, inr, arith}
-use Rattle.std.specs.Prelude.{T, not, ◌&&◌, ◌⊎◌, ◌↔◌, unwrap_or, is_some}
+use Rattle.std.proofs.Math.Facts.{and_yes, yes_and}
+use Rattle.std.proofs.lemmas.Bool.{both_ways}
+use Rattle.std.specs.Prelude.{T, not, ◌⊎◌, ◌↔◌, unwrap_or, is_some}
 use Rattle.std.specs.declared.option.Option.{Option}
 use Rattle.std.specs.declared.cmp.Ordering.{Ordering}
 use Rattle.std.specs.declared.cmp.Ordering.TheVariants.{Less, Equal, Greater}
@@ -73,7 +75,7 @@ less Less p = refl
 less Equal p = absurd p
 less Greater p = absurd p
 
-is_less : (r : Ordering) → T (is_lt r) → r ≡ Less
+pub is_less : (r : Ordering) → T (is_lt r) → r ≡ Less
 is_less Less p = refl
 is_less Equal p = absurd p
 is_less Greater p = absurd p
@@ -82,21 +84,6 @@ neither : (r : Ordering) → is_lt r ≡ false → is_lt (ordering_reverse r) �
 neither Less a b = cc
 neither Equal a b = refl
 neither Greater a b = cc
-
-not_both : {b : Bool} → b ≡ false → b ≡ true → ⊥
-not_both {b = b} isnt is = cc
-
-left : (a b : Bool) → T (a && b) → T a
-left true b p = tt
-left false b p = absurd p
-
-right : (a b : Bool) → T (a && b) → T b
-right true b p = p
-right false b p = absurd p
-
-both : (a b : Bool) → T a → T b → T (a && b)
-both true b p q = q
-both false b p q = p
 
 turned : {A : Type 0} (b : Bool) (x y : A) → cond (not b) x y ≡ cond b y x
 turned true x y = refl
@@ -204,8 +191,8 @@ module _ {K X : Type 0} {R : K → K → Ordering} (o : IsTotalOrder R) (same : 
   all_stay : (k : K) (es : List (K × X)) → T (below_all R k es) → where_key R (λ x. not (eq_by_cmp R k x)) es ≡ es
   all_stay k [] h = refl
   all_stay k (e ∷ es) h =
-      ap (λ b. cond (not b) (e ∷ where_key R (λ x. not (eq_by_cmp R k x)) es) (where_key R (λ x. not (eq_by_cmp R k x)) es)) (less _ (left _ _ h))
-      ∙ ap (λ l. e ∷ l) (all_stay k es (right _ _ h))
+      ap (λ b. cond (not b) (e ∷ where_key R (λ x. not (eq_by_cmp R k x)) es) (where_key R (λ x. not (eq_by_cmp R k x)) es)) (less _ (and_yes _ _ h).0)
+      ∙ ap (λ l. e ∷ l) (all_stay k es (and_yes _ _ h).1)
 
   below_same : (k j : K) (es : List (K × X)) → j ≡ k → T (below_all R j es) → T (below_all R k es)
   below_same k j es e h = subst (λ i. T (below_all R i es)) e h
@@ -237,9 +224,9 @@ module _ {K X : Type 0} {R : K → K → Ordering} (o : IsTotalOrder R) (same : 
         let rest = where_key R (λ x. not (eq_by_cmp R k x)) es in
         elim (eq_by_cmp R k e.0) as (λ b. eq_by_cmp R k e.0 ≡ b → cond b (Some e.1) (find R k es) ≡ Some v → f e.0 e.1 + sum_over f es ≡ f k v + sum_over f (cond (not b) (e ∷ rest) rest)) [
           | true ↦ λ t is.
-              let stays : rest ≡ es = all_stay k es (below_same k e.0 es (sym (key_same o same k e.0 t)) (left _ _ h)) in
+              let stays : rest ≡ es = all_stay k es (below_same k e.0 es (sym (key_same o same k e.0 t)) (and_yes _ _ h).0) in
               ap (λ j. f j e.1 + sum_over f es) (sym (key_same o same k e.0 t)) ∙ ap (λ x. f k x + sum_over f es) (same_Some e.1 v is) ∙ ap (λ l. f k v + sum_over f l) (sym stays)
-          | false ↦ λ t is. let rec : sum_over f es ≡ f k v + sum_over f rest = sum_without k v es (right _ _ h) is in omega (arith, rec)
+          | false ↦ λ t is. let rec : sum_over f es ≡ f k v + sum_over f rest = sum_without k v es (and_yes _ _ h).1 is in omega (arith, rec)
         ] refl is
 
     pub total-remove : (m : FinMap R X) (k : K) (v : X) → get m k ≡ Some v → total f m ≡ f k v + total f (remove m k)
@@ -264,7 +251,7 @@ module _ {K X : Type 0} {R : K → K → Ordering} (o : IsTotalOrder R) (same : 
 module _ {K X : Type 0} {R : K → K → Ordering} (o : IsTotalOrder R) (same : IsAntisymmetric R) where
   pub find_below : (q : K) (es : List (K × X)) → T (below_all R q es) → find R q es ≡ None
   find_below q [] h = refl
-  find_below q (e ∷ es) h = ap (λ b. cond b (Some e.1) (find R q es)) (less _ (left _ _ h)) ∙ find_below q es (right _ _ h)
+  find_below q (e ∷ es) h = ap (λ b. cond b (Some e.1) (find R q es)) (less _ (and_yes _ _ h).0) ∙ find_below q es (and_yes _ _ h).1
 
   find_later : (k : K) (v : X) (e : K × X) (es : List (K × X)) → T (below_all R e.0 es) → find R k es ≡ Some v → find R k (e ∷ es) ≡ Some v
   find_later k v e es h is = elim (eq_by_cmp R k e.0) as (λ b. eq_by_cmp R k e.0 ≡ b → cond b (Some e.1) (find R k es) ≡ Some v) [
@@ -279,7 +266,7 @@ module _ {K X : Type 0} {R : K → K → Ordering} (o : IsTotalOrder R) (same : 
       | true ↦ λ t is.
           let at : e.0 ≡ k = same_Some _ _ is in
           (e.1, ap (λ b. cond b (Some e.1) (find R k es)) (ap (λ q. eq_by_cmp R q e.0) (sym at) ∙ key_itself o same e.0), ap (λ q. p q e.1) (sym at) ∙ t)
-      | false ↦ λ t is. let rest = first_in_found k es (right _ _ h) is in (rest.0, find_later k rest.0 e es (left _ _ h) rest.1, rest.2)
+      | false ↦ λ t is. let rest = first_in_found k es (and_yes _ _ h).1 is in (rest.0, find_later k rest.0 e es (and_yes _ _ h).0 rest.1, rest.2)
     ] refl is
 
     pub first_key-found : (m : FinMap R X) (k : K) → first_key p m ≡ Some k → (v : X) × (get m k ≡ Some v) × (p k v ≡ true)
@@ -304,8 +291,8 @@ module _ {K X : Type 0} {R : K → K → Ordering} (o : IsTotalOrder R) (same : 
     found_above : (x j : K) (v : X) (es : List (K × X)) → T (below_all R x es) → find R j es ≡ Some v → R x j ≡ Less
     found_above x j v [] h is = absurd (not_Some is)
     found_above x j v (e ∷ es) h is = elim (eq_by_cmp R j e.0) as (λ b. eq_by_cmp R j e.0 ≡ b → cond b (Some e.1) (find R j es) ≡ Some v → R x j ≡ Less) [
-      | true ↦ λ at is. ap (R x) (key_same o same j e.0 at) ∙ is_less _ (left _ _ h)
-      | false ↦ λ at is. found_above x j v es (right _ _ h) is
+      | true ↦ λ at is. ap (R x) (key_same o same j e.0 at) ∙ is_less _ (and_yes _ _ h).0
+      | false ↦ λ at is. found_above x j v es (and_yes _ _ h).1 is
     ] refl is
 
     -- no key below the first passes
@@ -316,16 +303,16 @@ module _ {K X : Type 0} {R : K → K → Ordering} (o : IsTotalOrder R) (same : 
           let at : e.0 ≡ k = same_Some _ _ first in
           elim (eq_by_cmp R j e.0) as (λ b. eq_by_cmp R j e.0 ≡ b → cond b (Some e.1) (find R j es) ≡ Some v → is_lt (R j k) ≡ false) [
             | true ↦ λ is_e is. ap (λ x. is_lt (R j x)) (sym at) ∙ ap is_lt (equal _ is_e)
-            | false ↦ λ not_e is. ap (λ x. is_lt (R j x)) (sym at) ∙ ap is_lt (o.antisymm j e.0 ∙ ap ordering_reverse (found_above e.0 j v es (left _ _ h) is))
+            | false ↦ λ not_e is. ap (λ x. is_lt (R j x)) (sym at) ∙ ap is_lt (o.antisymm j e.0 ∙ ap ordering_reverse (found_above e.0 j v es (and_yes _ _ h).0 is))
           ] refl is
       | false ↦ λ t first. elim (eq_by_cmp R j e.0) as (λ b. eq_by_cmp R j e.0 ≡ b → cond b (Some e.1) (find R j es) ≡ Some v → is_lt (R j k) ≡ false) [
-        | true ↦ λ is_e is. absurd (not_both (sym (ap (λ x. p j x) (same_Some e.1 v is)) ∙ ap (λ q. p q e.1) (key_same o same j e.0 is_e) ∙ t) pass)
-        | false ↦ λ not_e is. below_first j k v es (right _ _ h) first is pass
+        | true ↦ λ is_e is. absurd (both_ways _ (sym (ap (λ x. p j x) (same_Some e.1 v is)) ∙ ap (λ q. p q e.1) (key_same o same j e.0 is_e) ∙ t) pass)
+        | false ↦ λ not_e is. below_first j k v es (and_yes _ _ h).1 first is pass
       ] refl is
     ] refl first
 
     passes_there : (k : K) (x : Option X) → passes p k x ≡ true → (v : X) × (x ≡ Some v) × (p k v ≡ true)
-    passes_there k None pass = absurd (not_both refl pass)
+    passes_there k None pass = absurd (both_ways _ refl pass)
     passes_there k (Some v) pass = (v, refl, pass)
 
     pub first_key-least : (m : FinMap R X) (k : K) → first_key p m ≡ Some k → IsLeast p m k
@@ -340,7 +327,7 @@ module _ {K X : Type 0} {R : K → K → Ordering} (o : IsTotalOrder R) (same : 
     least-first_key m k least =
         let there = passes_there k (get m k) least.0 in
         elim (first_key p m) as (λ x. first_key p m ≡ x → x ≡ Some k) [
-          | None ↦ λ none. absurd (not_both (first_key-none m k there.0 none there.1) there.2)
+          | None ↦ λ none. absurd (both_ways _ (first_key-none m k there.0 none there.1) there.2)
           | Some i ↦ λ first.
               let found = first_key-least m i first in
               ap Some (same i k (neither _ (least.1 i found.0) (ap is_lt (sym (o.antisymm k i)) ∙ found.1 k least.0)))
@@ -349,7 +336,7 @@ module _ {K X : Type 0} {R : K → K → Ordering} (o : IsTotalOrder R) (same : 
     pub none-first_key : (m : FinMap R X) → ((k : K) → passes p k (get m k) ≡ false) → first_key p m ≡ None
     none-first_key m none = elim (first_key p m) as (λ x. first_key p m ≡ x → x ≡ None) [
       | None ↦ λ e. refl
-      | Some i ↦ λ first. absurd (not_both (none i) (first_key-least m i first).0)
+      | Some i ↦ λ first. absurd (both_ways _ (none i) (first_key-least m i first).0)
     ] refl
 
     pub first_key-none_passes : (m : FinMap R X) (k : K) → first_key p m ≡ None → passes p k (get m k) ≡ false
@@ -367,11 +354,11 @@ sum-map f g (e ∷ es) = ap (λ n. g e.0 (f e.1) + n) (sum-map f g es)
 module _ {K X Y : Type 0} (R : K → K → Ordering) (f : X → Y) where
   below-map : (q : K) (es : List (K × X)) → T (below_all R q es) → T (below_all R q (map (λ (e : K × X). (e.0, f e.1)) es))
   below-map q [] h = tt
-  below-map q (e ∷ es) h = both _ _ (left _ _ h) (below-map q es (right _ _ h))
+  below-map q (e ∷ es) h = yes_and _ _ (and_yes _ _ h).0 (below-map q es (and_yes _ _ h).1)
 
   sorted-map : (es : List (K × X)) → T (is_sorted R es) → T (is_sorted R (map (λ (e : K × X). (e.0, f e.1)) es))
   sorted-map [] h = tt
-  sorted-map (e ∷ es) h = both _ _ (below-map e.0 es (left _ _ h)) (sorted-map es (right _ _ h))
+  sorted-map (e ∷ es) h = yes_and _ _ (below-map e.0 es (and_yes _ _ h).0) (sorted-map es (and_yes _ _ h).1)
 
   find-map : (q : K) (es : List (K × X)) → find R q (map (λ (e : K × X). (e.0, f e.1)) es) ≡ option_map f (find R q es)
   find-map q [] = refl
