@@ -1,5 +1,5 @@
 -- The fault of a text is that of the first rule that it breaks.
-use Rattle.std.proofs.Common.{◌≡◌, ℕ, ◌+◌, ◌-◌, ◌*◌, ◌/◌, ◌^◌, ◌||◌, ◌&&◌, not, Bool, true, false, cond, eqb, ltb, leb, List, [], ◌∷◌, ◌++◌, length, Result, Ok, Err, Some, None, refl, sym, ap, subst, ◌∙◌, arith}
+use Rattle.std.proofs.Common.{◌≡◌, ℕ, ◌+◌, ◌-◌, ◌*◌, ◌/◌, ◌^◌, ◌||◌, ◌&&◌, not, Bool, true, false, cond, eqb, ltb, leb, List, [], ◌∷◌, ◌++◌, length, Result, Ok, Err, Some, None, refl, sym, ap, ◌∙◌, arith}
 use Rattle.std.specs.declared.option.Option.{Option}
 use Rattle.std.proofs.lemmas.Bool.Decides.{nat_tests}
 use Rattle.bmp_read.specs.declared.fault.BmpFault.{BmpFault}
@@ -282,16 +282,16 @@ raster_is text head width bits height w b h start =
     λ i. leb (start i + (sym w i * b i + 31) / 32 * 4 * sym h i) (length text)
 
 -- the steps of the headers
-abbrev pub with_format : List ℕ → ℕ × ℕ × RowOrder → Format → Result Head BmpFault
+abbrev with_format : List ℕ → ℕ × ℕ × RowOrder → Format → Result Head BmpFault
 with_format text size format = Ok record { width = size.0; height = size.1; order = size.2; format = format; raster_start = u32_at 10 text }
 
-abbrev pub with_depth : List ℕ → ℕ → ℕ × ℕ × RowOrder → ℕ × ℕ → Result Head BmpFault
+abbrev with_depth : List ℕ → ℕ → ℕ × ℕ × RowOrder → ℕ × ℕ → Result Head BmpFault
 with_depth text info_size size depth = format_of info_size depth.0 depth.1 text >>= with_format text size
 
-abbrev pub with_size : List ℕ → ℕ → ℕ × ℕ × RowOrder → Result Head BmpFault
+abbrev with_size : List ℕ → ℕ → ℕ × ℕ × RowOrder → Result Head BmpFault
 with_size text info_size size = depth_at text >>= with_depth text info_size size
 
-abbrev pub with_info : List ℕ → ℕ → Result Head BmpFault
+abbrev with_info : List ℕ → ℕ → Result Head BmpFault
 with_info text info_size = size_at text >>= with_size text info_size
 
 head_fault : (text : List ℕ) → fault_of (head_of text) ≡ first_broken (info_rules text ++ (size_rules text ++ (depth_rules text ++ (format_rules text ++ []))))
@@ -306,21 +306,42 @@ head_fault text =
     sym (λ k. fault_of (format_of (info_is text info_size i k) (right.1 k).0 (right.1 k).1 text)) in
     bind_fault (format_of info_size depth.0 depth.1 text) (with_format text size) (format_rules text) [] (same ∙ format_fault text right.0) (λ format f. refl))))
 
--- the raster of a head ends where its rule says
-end_is : (text : List ℕ) (head : Head) → head_of text ≡ Ok head → has_raster head text ≡ leb (raster_end (u32_at 10 text) (u32_at 18 text) (u16_at 28 text) (unsigned (u32_at 22 text))) (length text)
+-- what was read in turn of a text that has a head
+pub record HeadParts (text : List ℕ) (head : Head) : Type 0 where
+  pub size : ℕ × ℕ × RowOrder
+  pub size_read : size_at text ≡ Ok size
+  pub depth : is_depth (u32_at 30 text) (u16_at 28 text) ≡ true
+  pub format : Format
+  pub format_read : format_of (u32_at 14 text) (u32_at 30 text) (u16_at 28 text) text ≡ Ok format
+  pub is : record { width = size.0; height = size.1; order = size.2; format = format; raster_start = u32_at 10 text } ≡ head
+
+pub head_parts : (text : List ℕ) (head : Head) → head_of text ≡ Ok head → HeadParts text head
 unfolding head_of
-end_is text head e =
+head_parts text head e =
     let one = bind_ok (info_size_at text) (with_info text) head e in
     let two = bind_ok (size_at text) (with_size text one.0) head one.2 in
     let three = bind_ok (depth_at text) (with_depth text one.0 two.0) head two.2 in
     let four = bind_ok (format_of one.0 three.0.0 three.0.1 text) (with_format text two.0) head three.2 in
-    let is : record { width = two.0.0; height = two.0.1; order = two.0.2; format = four.0; raster_start = u32_at 10 text } ≡ head = cc (four.2) in
-    let size = size_is text two.0 two.1 in
+    let info = info_is text one.0 one.1 in
     let depth = depth_is text three.0 three.1 in
-    let bits : bits_of four.0 ≡ u16_at 28 text =
-    format_bits one.0 three.0.0 three.0.1 text four.0 (subst (λ (depth : ℕ × ℕ). is_depth depth.0 depth.1 ≡ true) depth.1 depth.0) four.1 ∙ sym (ap (λ (depth : ℕ × ℕ). depth.1) depth.1) in
-    raster_is text head (u32_at 18 text) (u16_at 28 text) (unsigned (u32_at 22 text)) (size.0 ∙ ap (λ head. head.width) is) (ap bits_of (sym (ap (λ head. head.format) is)) ∙ bits)
-    (size.1 ∙ ap (λ head. head.height) is) (sym (ap (λ head. head.raster_start) is))
+    record {
+      size = two.0;
+      size_read = two.1;
+      depth = depth.0;
+      format = four.0;
+      format_read = (λ k. format_of (info k) (depth.1 k).0 (depth.1 k).1 text) ∙ four.1;
+      is = cc (four.2);
+    }
+
+-- the raster of a head ends where its rule says
+end_is : (text : List ℕ) (head : Head) → head_of text ≡ Ok head → has_raster head text ≡ leb (raster_end (u32_at 10 text) (u32_at 18 text) (u16_at 28 text) (unsigned (u32_at 22 text))) (length text)
+end_is text head e =
+    let parts = head_parts text head e in
+    let size = size_is text parts.size parts.size_read in
+    let bits : bits_of parts.format ≡ u16_at 28 text =
+    format_bits (u32_at 14 text) (u32_at 30 text) (u16_at 28 text) text parts.format parts.depth parts.format_read in
+    raster_is text head (u32_at 18 text) (u16_at 28 text) (unsigned (u32_at 22 text)) (size.0 ∙ ap (λ head. head.width) parts.is) (ap bits_of (sym (ap (λ head. head.format) parts.is)) ∙ bits)
+    (size.1 ∙ ap (λ head. head.height) parts.is) (sym (ap (λ head. head.raster_start) parts.is))
 
 -- the fault of a header is that of the first of its rules that is broken
 pub header_first : (text : List ℕ) → fault_of (head_of text) ≡ first_broken (header_rules text)

@@ -15,14 +15,14 @@ use Rattle.bmp_read.specs.declared.format.Format.TheVariants.{Indexed1, Indexed4
 use Rattle.bmp_read.specs.declared.format.Masks.{Masks}
 use Rattle.bmp_read.specs.declared.format.Palette.{Palette}
 use Rattle.bmp_read.specs.Bytes.{u16_at, u32_at}
-use Rattle.bmp_read.specs.Header.{stored_masks, are_masks, palette_count, info_size_at, size_at, depth_at, masks_at, palette_at, indexed, masked, direct, format_of, head_of}
+use Rattle.bmp_read.specs.Header.{stored_masks, are_masks, palette_count, size_at, masks_at, palette_at, indexed, masked, direct, format_of, head_of}
 use Rattle.bmp_read.specs.Pixel.{bits_of, bgr_at, palette_colour, index1, index4, rgb555, masked_colour, pixel_at}
 use Rattle.bmp_read.specs.Raster.{row_length, has_raster, stored_row, stored_index, row_at, last_rows}
 use Rattle.bmp_read.specs.Full.{full_picture, full_picture_under}
 use Rattle.bmp_read.specs.Rules.{unsigned}
 use Rattle.bmp_read.specs.Table.{stored_pixel, rows_before, row_from, IsByTable}
 use Rattle.bmp_read.proofs.Blocks.{block, length-blocks, pixel_in, length-pixels}
-use Rattle.bmp_read.proofs.FirstBroken.{info_is, size_is, depth_is, format_bits, with_format, with_depth, with_size, with_info}
+use Rattle.bmp_read.proofs.FirstBroken.{size_is, format_bits, head_parts}
 use Rattle.bmp_read.proofs.Heads.{rule_ok, bind_ok}
 use Rattle.bmp_read.proofs.RowSteps.{length-last_rows, by_raster}
 
@@ -162,25 +162,17 @@ record ByFields (text : List ℕ) (head : Head) : Type 0 where
   pixel : (row : List ℕ) (x : ℕ) → pixel_at head.format text row x ≡ stored_pixel text row x
 
 by_fields : (text : List ℕ) (head : Head) → head_of text ≡ Ok head → ByFields text head
-unfolding head_of
 by_fields text head e =
-    let one = bind_ok (info_size_at text) (with_info text) head e in
-    let two = bind_ok (size_at text) (with_size text one.0) head one.2 in
-    let three = bind_ok (depth_at text) (with_depth text one.0 two.0) head two.2 in
-    let four = bind_ok (format_of one.0 three.0.0 three.0.1 text) (with_format text two.0) head three.2 in
-    let is : record { width = two.0.0; height = two.0.1; order = two.0.2; format = four.0; raster_start = u32_at 10 text } ≡ head = cc (four.2) in
-    let size = size_is text two.0 two.1 in
-    let info = info_is text one.0 one.1 in
-    let depth = depth_is text three.0 three.1 in
-    let read : format_of (u32_at 14 text) (u32_at 30 text) (u16_at 28 text) text ≡ Ok four.0 = (λ k. format_of (info k) (depth.1 k).0 (depth.1 k).1 text) ∙ four.1 in
-    let format : head.format ≡ four.0 = sym (ap (λ head. head.format) is) in
+    let parts = head_parts text head e in
+    let size = size_is text parts.size parts.size_read in
+    let format : head.format ≡ parts.format = sym (ap (λ head. head.format) parts.is) in
     record {
-      wide = sym (ap (λ head. head.width) is) ∙ sym size.0;
-      high = sym (ap (λ head. head.height) is) ∙ sym size.1;
-      start = sym (ap (λ head. head.raster_start) is);
-      bits = ap bits_of format ∙ format_bits (u32_at 14 text) (u32_at 30 text) (u16_at 28 text) text four.0 depth.0 read;
-      order = λ n y. ap (λ o. stored_index o n y) (sym (ap (λ head. head.order) is)) ∙ order_is text two.0 n y two.1;
-      pixel = λ row x. ap (λ format. pixel_at format text row x) format ∙ by_format text row x four.0 read;
+      wide = sym (ap (λ head. head.width) parts.is) ∙ sym size.0;
+      high = sym (ap (λ head. head.height) parts.is) ∙ sym size.1;
+      start = sym (ap (λ head. head.raster_start) parts.is);
+      bits = ap bits_of format ∙ format_bits (u32_at 14 text) (u32_at 30 text) (u16_at 28 text) text parts.format parts.depth parts.format_read;
+      order = λ n y. ap (λ o. stored_index o n y) (sym (ap (λ head. head.order) parts.is)) ∙ order_is text parts.size n y parts.size_read;
+      pixel = λ row x. ap (λ format. pixel_at format text row x) format ∙ by_format text row x parts.format parts.format_read;
     }
 
 -- ---- the picture
