@@ -5,7 +5,7 @@ use Rattle.std.proofs.lemmas.Bool.{eqb-true, eqb-false, eq-eqb, ne_eqb}
 use Rattle.std.proofs.lemmas.List.{length-take, take_all, take-take}
 use Rattle.std.proofs.lemmas.List.Sums.{sum_by-cons}
 use Rattle.fitting.specs.Fitting.{fitting}
-use Rattle.fitting.specs.Fronts.{all_fit, within_fits, last_goes, same_fitting}
+use Rattle.fitting.specs.Prefixes.{all_fit, within_fits, last_goes, same_fitting}
 use Rattle.bitmap_pool.specs.Pool.{Group, pool_size, pool_count, is_empty, pool_within}
 use Rattle.bitmap_pool.specs.Evicting.{evict_one, IsPoolOver}
 

@@ -7,7 +7,7 @@ use Rattle.std.proofs.lemmas.List.{length-take}
 use Rattle.std.proofs.Math.Nat.{mul-le-mul_left}
 use Rattle.bitmap_kind.specs.declared.bitmaps.Config.{Config}
 use Rattle.fitting.specs.Fitting.{fitting}
-use Rattle.fitting.specs.Fronts.{fitting-take, fitting-le-length, all_fit}
+use Rattle.fitting.specs.Prefixes.{fitting-take, fitting-le-length, all_fit}
 use Rattle.bitmap_pool.specs.Pool.{Group, pool_size, pool_count, pooled, is_group, has_group, is_empty, items_of, others_of, pool_within, pool_trim, without_last, with_room, with_room_for, add_last, pool_put, pick_among, pick_at}
 use Rattle.bitmap_pool.specs.Limits.{AreApart, IsPool}
 use Rattle.bitmap_pool.proofs.Lasts.{or_left, or_right, length_without_last}

@@ -8,7 +8,7 @@ use Rattle.bitmap_kind.specs.declared.bitmaps.Config.{Config}
 use Rattle.bitmap_kind.specs.declared.bitmaps.Config.TheVariants.{Argb8888, Rgb565, Alpha8}
 use Rattle.cache_key.specs.Key.{same_config}
 use Rattle.fitting.specs.Fitting.{fitting}
-use Rattle.fitting.specs.Fronts.{fitting-le-length}
+use Rattle.fitting.specs.Prefixes.{fitting-le-length}
 use Rattle.bitmap_pool.specs.Pool.{Group, pool_size, pool_count, pooled, is_group, has_group, is_empty, pool_within, pool_trim, without_last, with_room, with_room_for, add_last, pool_put, least_with, least_size, serving_size, items_of, others_of, pick_at}
 use Rattle.engine_world.specs.Places.{one_if, occurrences}
 use Rattle.engine_world.specs.Sound.{GroupsApart, PoolIs}

@@ -9,7 +9,7 @@ use Rattle.std.proofs.lemmas.Bool.{ltb-false, leb-false}
 use Rattle.cache_key.specs.Key.{Key}
 use Rattle.load_cause.specs.declared.causes.Cause.{Cause}
 use Rattle.fitting.specs.Fitting.{fitting}
-use Rattle.fitting.specs.Fronts.{fitting-take, fitting-le-length, all_fit}
+use Rattle.fitting.specs.Prefixes.{fitting-take, fitting-le-length, all_fit}
 use Rattle.bitmap_pool.specs.Pool.{pooled, pool_put}
 use Rattle.load_table.specs.declared.loads.LoadState.TheVariants.{Ready}
 use Rattle.load_table.specs.Loads.{ready_on, holders}

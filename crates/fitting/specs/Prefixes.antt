@@ -1,7 +1,8 @@
--- What always holds of the items that fit: they are a front within the limits, and the longest one. It is this project's own.
-use Rattle.std.specs.Prelude.{◌≡◌, ℕ, ◌+◌, ◌-◌, ◌<◌, ◌≤◌, ◌⊎◌, ◌↔◌, ◌&&◌, Bool, true, false, cond, ltb, leb, eqb, min, List, [], ◌∷◌, length, take, sum_by, zero, suc, refl}
+-- What always holds of the items that fit: they are a prefix within the limits, and the longest one. It is this
+-- project's own.
+use Rattle.std.specs.Prelude.{◌≡◌, ℕ, ◌+◌, ◌-◌, ◌<◌, ◌≤◌, ◌⊎◌, ◌↔◌, ◌&&◌, true, false, cond, ltb, leb, eqb, min, List, [], ◌∷◌, length, take, sum_by, zero, suc, refl}
 use Rattle.std.proofs.Common.{◌≢◌, ap, ◌∙◌, inl, inr, arith}
-use Rattle.std.proofs.lemmas.Bool.{eqb-true, eqb-false, ltb-true, leb-true, lt-ltb, le-leb}
+use Rattle.std.proofs.lemmas.Bool.{eqb-true, eqb-false, ltb-true, leb-true, lt-ltb, le-leb, and_parts, and_from}
 use Rattle.std.proofs.lemmas.List.Sums.{sum_by-cons}
 use Rattle.fitting.specs.Fitting.{fitting}
 
@@ -11,23 +12,13 @@ IsOver size room slots xs = (room < sum_by size xs) ⊎ (slots < length xs)
 
 -- All fit exactly where they are within both limits.
 abbrev pub AllFit : (A : Type 0) → Type 0
-AllFit A = (size : A → ℕ) (room slots : ℕ) (xs : List A) → (fitting size room slots xs ≡ length xs) ↔ ((sum_by size xs ≤ room) × (length xs ≤ slots))
+AllFit A = (size : A → ℕ) (room slots : ℕ) (xs : List A)
+    → (fitting size room slots xs ≡ length xs) ↔ ((sum_by size xs ≤ room) × (length xs ≤ slots))
 
--- Of a front so many fit as it has, but no more than of the whole.
-abbrev pub FrontFits : (A : Type 0) → Type 0
-FrontFits A = (size : A → ℕ) (room slots k : ℕ) (xs : List A) → fitting size room slots (take k xs) ≡ min k (fitting size room slots xs)
-
-and_left : (a b : Bool) → (a && b) ≡ true → a ≡ true
-and_left true b e = refl
-and_left false b e = e
-
-and_right : (a b : Bool) → (a && b) ≡ true → b ≡ true
-and_right true b e = e
-and_right false b e = Prim.cc
-
-and_both : (a b : Bool) → a ≡ true → b ≡ true → (a && b) ≡ true
-and_both true b e f = f
-and_both false b e f = e
+-- Of a prefix so many fit as it has, but no more than of the whole.
+abbrev pub PrefixFits : (A : Type 0) → Type 0
+PrefixFits A = (size : A → ℕ) (room slots k : ℕ) (xs : List A)
+    → fitting size room slots (take k xs) ≡ min k (fitting size room slots xs)
 
 module _ {A : Type 0} (size : A → ℕ) where
   pub fitting-take : (room slots k : ℕ) (xs : List A) → fitting size room slots (take k xs) ≡ min k (fitting size room slots xs)
@@ -50,8 +41,8 @@ module _ {A : Type 0} (size : A → ℕ) where
   all_fit room slots [] e = (omega arith, omega arith)
   all_fit room slots (x ∷ xs) e = elim (ltb 0 slots && leb (size x) room) as (λ t. (ltb 0 slots && leb (size x) room) ≡ t → cond t (1 + fitting size (room - size x) (slots - 1) xs) 0 ≡ length (x ∷ xs) → (sum_by size (x ∷ xs) ≤ room) × (length (x ∷ xs) ≤ slots)) [
     | true ↦ λ is e.
-        let some : 0 < slots = ltb-true _ _ (and_left _ _ is) in
-        let fits : size x ≤ room = leb-true _ _ (and_right _ _ is) in
+        let some : 0 < slots = ltb-true _ _ (and_parts _ _ is).0 in
+        let fits : size x ≤ room = leb-true _ _ (and_parts _ _ is).1 in
         let all : fitting size (room - size x) (slots - 1) xs ≡ length xs = omega (arith, e) in
         let rest : (sum_by size xs ≤ room - size x) × (length xs ≤ slots - 1) = all_fit (room - size x) (slots - 1) xs all in
         let sum : sum_by size (x ∷ xs) ≡ size x + sum_by size xs = sum_by-cons size x xs in
@@ -64,7 +55,7 @@ module _ {A : Type 0} (size : A → ℕ) where
   within_fits room slots [] fits few = refl
   within_fits room slots (x ∷ xs) fits few =
       let sum : sum_by size (x ∷ xs) ≡ size x + sum_by size xs = sum_by-cons size x xs in
-      let passes : (ltb 0 slots && leb (size x) room) ≡ true = and_both _ _ (lt-ltb 0 slots (omega (arith, few))) (le-leb (size x) room (omega (arith, fits, sum))) in
+      let passes : (ltb 0 slots && leb (size x) room) ≡ true = and_from _ _ (lt-ltb 0 slots (omega (arith, few))) (le-leb (size x) room (omega (arith, fits, sum))) in
       let rest : fitting size (room - size x) (slots - 1) xs ≡ length xs = within_fits (room - size x) (slots - 1) xs (omega (arith, fits, sum)) (omega (arith, few)) in
       ap (λ t. cond t (1 + fitting size (room - size x) (slots - 1) xs) 0) passes ∙ (omega (arith, rest))
 
@@ -79,5 +70,5 @@ module _ {A : Type 0} (size : A → ℕ) where
   pub same_fitting : (room slots : ℕ) (xs : List A) → IsOver size room slots xs → fitting size room slots (take (length xs - 1) xs) ≡ fitting size room slots xs
   same_fitting room slots xs over =
       let most : fitting size room slots xs ≤ length xs - 1 = last_goes room slots xs over in
-      let front : fitting size room slots (take (length xs - 1) xs) ≡ min (length xs - 1) (fitting size room slots xs) = fitting-take room slots (length xs - 1) xs in
-      omega (arith, most, front)
+      let cut : fitting size room slots (take (length xs - 1) xs) ≡ min (length xs - 1) (fitting size room slots xs) = fitting-take room slots (length xs - 1) xs in
+      omega (arith, most, cut)

@@ -3,7 +3,7 @@ use Rattle.std.proofs.Common.{◌≡◌, ◌≢◌, ℕ, ◌-◌, ◌≤◌, Lis
 use Rattle.std.specs.Prelude.{T, not, reverse, slice_get, sum_by, unwrap_or, is_some}
 use Rattle.std.proofs.lemmas.List.{length-take, take_all, take-take, drop_all, drop-append-le, reverse-append}
 use Rattle.fitting.specs.Fitting.{fitting}
-use Rattle.fitting.specs.Fronts.{IsOver, within_fits, last_goes, same_fitting}
+use Rattle.fitting.specs.Prefixes.{IsOver, within_fits, last_goes, same_fitting}
 use Rattle.memory_cache.specs.Cache.{cache_kept, cache_gone}
 
 not_Some : {A : Type 0} {x : A} → None ≢ Some x

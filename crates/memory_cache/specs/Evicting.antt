@@ -1,6 +1,6 @@
 -- Giving up the eldest again and again ends in what fits. It is this project's own.
 use Rattle.std.specs.Prelude.{◌≡◌, ℕ, ◌-◌, ◌≤◌, List, [], ◌∷◌, length, take, slice_get, sum_by, Some}
-use Rattle.fitting.specs.Fronts.{IsOver}
+use Rattle.fitting.specs.Prefixes.{IsOver}
 use Rattle.memory_cache.specs.Cache.{cache_kept, cache_gone}
 
 -- The eldest of a cache that is over is the first that goes, and what stays stays.
