@@ -4,7 +4,6 @@ use Rattle.std.specs.Prelude.{◌||◌, ◌&&◌, filter}
 use Rattle.std.specs.List.{list_any}
 use Rattle.std.proofs.lemmas.Bool.{eqb-true, eq-eqb, and_parts}
 use Rattle.bitmap_kind.specs.declared.bitmaps.Config.{Config}
-use Rattle.bitmap_kind.specs.declared.bitmaps.Config.TheVariants.{Argb8888, Rgb565, Alpha8}
 use Rattle.bitmap_kind.specs.Picture.{BitmapValue}
 use Rattle.cache_key.specs.Key.{same_config}
 use Rattle.cache_key.specs.ConfigLaws.{config_is, config_itself}

@@ -1,4 +1,5 @@
--- What holds of the groups of every pool, and that no call breaks it. The limits, and that they hold after each call, are this project's own.
+-- What holds of the groups of every pool, and that no call breaks it. The limits, and that they hold after each call,
+-- are this project's own.
 use Rattle.std.specs.Prelude.{◌≡◌, ℕ, ◌≤◌, false, List, [], ◌∷◌, length}
 use Rattle.bitmap_kind.specs.declared.bitmaps.Config.{Config}
 use Rattle.bitmap_pool.specs.Pool.{Group, pool_size, pool_count, has_group, pool_put, pool_trim, pool_pick}

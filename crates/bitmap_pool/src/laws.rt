@@ -16,8 +16,8 @@ pub fn numbers_stand_for_bitmaps()
     ensures picks { PicksAlike }
 {}
 
-/// A pool's groups stay apart and within its limits, whatever its bitmaps are: its bytes are at most the maximum, and it has
-/// at most 1,024 bitmaps and 2,048 groups.
+/// A pool's groups stay apart and within its limits, whatever its bitmaps are: its bytes are at most the maximum, and it
+/// has at most 1,024 bitmaps and 2,048 groups.
 pub fn pools_stay_within_limits<T>()
     ensures puts { PutsKeep T }
     ensures picks { PicksKeep T }

@@ -1,4 +1,6 @@
--- The memory cache on plain lists, the most recent first, for items of any kind with a size. That the eldest go first, and that they go where the sizes are above the maximum, is Glide's LruCache. The limit on items, and what is too large, are this project's own.
+-- The memory cache on plain lists, the most recent first, for items of any kind with a size. That the eldest go first,
+-- and that they go where the sizes are above the maximum, is Glide's LruCache. The limit on items, and what is too large,
+-- are this project's own.
 use Rattle.std.specs.Prelude.{ℕ, ◌-◌, ◌==◌, Bool, not, ◌||◌, nat_lt, nat_le, List, length, take, drop, filter, reverse, slice_get, sum_by, None, if◌then◌else◌}
 use Rattle.std.specs.declared.option.Option.{Option}
 use Rattle.std.specs.List.{list_any}

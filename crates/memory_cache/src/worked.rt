@@ -13,7 +13,8 @@ fn worked_cache()
     ensures over { GivesUp ((2, 100) ∷ (1, 396) ∷ []) 400 (Some (1, 396)) ((2, 100) ∷ []) }
     ensures no_more { GivesUp ((2, 100) ∷ []) 400 None ((2, 100) ∷ []) }
     ensures cut { Cuts ((2, 100) ∷ (1, 396) ∷ []) 400 ((2, 100) ∷ []) ((1, 396) ∷ []) }
-    ensures eldest_first { Cuts ((3, 100) ∷ (2, 100) ∷ (1, 100) ∷ []) 100 ((3, 100) ∷ []) ((1, 100) ∷ (2, 100) ∷ []) }
+    ensures eldest_first { Cuts ((3, 100) ∷ (2, 100) ∷ (1, 100) ∷ []) 100
+        ((3, 100) ∷ []) ((1, 100) ∷ (2, 100) ∷ []) }
 {}
 
 // A number is taken out wherever it stands, and the others stay in their order.
