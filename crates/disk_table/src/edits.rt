@@ -55,7 +55,8 @@ impl Edits {
 
     // The open edit of a key.
     pub fn of(&self, key: &Key) -> Option<u64>
-        ensures { result ≡ edit_of key.now self.now }
+        ensures number { result ≡ edit_of key.now self.now }
+        ensures within { IfSome result (λ number. number < 16) }
     {
         let number = first_of(&self.keys, key)?;
         Some(number as u64)

@@ -1,5 +1,5 @@
 // The table: entries, open edits and the count of lines.
-ghost use Rattle.std.specs.Prelude.{◌≡◌, ◌≤◌, ◌↔◌, ℕ, List, true, false, length, Some, IsSome, IfOk, OnErr, IsErrOf, if◌then◌else◌};
+ghost use Rattle.std.specs.Prelude.{◌≡◌, ◌≤◌, ◌<◌, ◌↔◌, ℕ, List, true, false, length, Some, IsSome, IfSome, IfOk, OnErr, IsErrOf, if◌then◌else◌};
 ghost use Rattle.journal_lines.specs.Lines.{HasShortLengths};
 ghost use Rattle.disk_table.specs.UseOrder.{IsOnce, IsShort, is_known, size_of};
 ghost use Rattle.disk_table.specs.Table.{no_entries, key_in, counted, has_room_for, after_line, edit_of, is_under_edit, free_edit, key_of_edit, is_full_for, clean_length, opened, closed, touched, forgotten, keys_in, eldest_closed, eldest_over, is_due};
@@ -102,9 +102,11 @@ impl DiskTable {
         self.order.clean(key)
     }
 
-    /// The open edit of the key.
+    /// The open edit of the key, by its number from 0 to 15.
     pub fn edit_of(&self, key: &Key) -> Option<u64>
-        ensures { result ≡ edit_of key.now self.now.edits }
+        ensures number { result ≡ edit_of key.now self.now.edits }
+        ensures within { IfSome result (λ edit. edit < 16) }
+        ensures known { IsSome result → is_known key.now self.now.entries ≡ true }
     {
         self.edits.of(key)
     }
@@ -114,6 +116,7 @@ impl DiskTable {
     pub fn open_edit(&mut self, key: &Key) -> Result<u64, EditRefused>
         ensures table { IfOk result (λ edit. self.new ≡ opened key.now edit self.old) }
         ensures number { IfOk result (λ edit. free_edit self.old.edits ≡ Some edit) }
+        ensures within { IfOk result (λ edit. edit < 16) }
         ensures busy { (edit : ℕ) → IsErrOf result (EditRefused.Busy edit) ↔ (edit_of key.now self.old.edits ≡ Some edit) }
         ensures too_many { IsErrOf result EditRefused.TooMany ↔ (is_full_for key.now self.old ≡ true) }
         ensures err { OnErr result (self.new ≡ self.old) }

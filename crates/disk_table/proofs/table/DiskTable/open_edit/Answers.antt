@@ -24,7 +24,7 @@ pub returns-in_err-put-clause-too_many : goal.returns-in_err-put-clause-too_many
 returns-in_err-put-clause-too_many c =
     let table : TableValue = record { entries = c.self.inside.order; edits = c.self.inside.edits; lines = c.self.inside.lines } in
     let room : is_full_for c.args.key.now c.args.self.now ≡ false =
-    put_tells table c.args.self.now c.args.key.now c.clean-clean.result c.in-Some-free.edit c.of.result c.free.result true c.self.view_is c.put.ensures.few c.of.ensures c.in_default.is c.free.ensures.number c.in-Some-free.is
+    put_tells table c.args.self.now c.args.key.now c.clean-clean.result c.in-Some-free.edit c.of.result c.free.result true c.self.view_is c.put.ensures.few c.of.ensures.number c.in_default.is c.free.ensures.number c.in-Some-free.is
     (sym c.in_err-put.ensures.room_first) in
     (not_too_many c.from_residual.result c.from_residual.ensures.1, λ full. cc)
 
@@ -32,7 +32,7 @@ pub returns-then-not-branch-clause-too_many : goal.returns-then-not-branch-claus
 returns-then-not-branch-clause-too_many c =
     let table : TableValue = record { entries = c.self.inside.order; edits = c.self.inside.edits; lines = c.self.inside.lines } in
     let full : is_full_for c.args.key.now c.args.self.now ≡ true =
-    put_tells table c.args.self.now c.args.key.now c.clean-clean.result c.in-Some-free.edit c.of.result c.free.result false c.self.view_is c.put.ensures.few c.of.ensures c.in_default.is c.free.ensures.number c.in-Some-free.is
+    put_tells table c.args.self.now c.args.key.now c.clean-clean.result c.in-Some-free.edit c.of.result c.free.result false c.self.view_is c.put.ensures.few c.of.ensures.number c.in_default.is c.free.ensures.number c.in-Some-free.is
     (sym c.if-not-branch.true ∙ c.in_ok-put.ensures.room) in
     (λ refused. full, λ holds. refl)
 
@@ -40,7 +40,7 @@ pub returns-clause-too_many : goal.returns-clause-too_many
 returns-clause-too_many c =
     let table : TableValue = record { entries = c.self.inside.order; edits = c.self.inside.edits; lines = c.self.inside.lines } in
     let room : is_full_for c.args.key.now c.args.self.now ≡ false =
-    put_tells table c.args.self.now c.args.key.now c.clean-clean.result c.in-Some-free.edit c.of.result c.free.result true c.self.view_is c.put.ensures.few c.of.ensures c.in_default.is c.free.ensures.number c.in-Some-free.is
+    put_tells table c.args.self.now c.args.key.now c.clean-clean.result c.in-Some-free.edit c.of.result c.free.result true c.self.view_is c.put.ensures.few c.of.ensures.number c.in_default.is c.free.ensures.number c.in-Some-free.is
     (sym c.if-not-branch.false ∙ c.in_ok-put.ensures.room) in
     (λ refused. cc, λ full. cc)
 
