@@ -2,7 +2,7 @@
 use Rattle.std.proofs.Common.{◌≡◌, ℕ, ◌+◌, ◌-◌, ◌<◌, ◌≤◌, Bool, true, false, cond, ◌&&◌, ◌==◌, nat_le, nat_eq, min, List, [], ◌∷◌, ◌++◌, length, take, drop, Some, None, Ok, Err, Result, IsSome, IfOk, refl, sym, ap, subst, ◌∙◌, append_assoc, append-nil, length-append, arith, codes, zero, suc, leb-true, leb-false, eq-eqb, length-take, length-drop, is_some, not, nat_lt, get_or, unwrap_or}
 use Rattle.std.specs.declared.option.Option.{Option}
 use Rattle.std.specs.List.{slice_split, onto_first, position, position_or_len}
-use Rattle.std.proofs.lemmas.Bool.{eqb-true, ltb-false}
+use Rattle.std.proofs.lemmas.Bool.{eqb-true, ltb-false, and_parts}
 use Rattle.std.proofs.lemmas.List.{at_drop_more}
 use Rattle.std.proofs.lemmas.List.Quantifiers.{position-Some}
 use Rattle.std.specs.Cmp.Lexicographic.{pointwise}
@@ -14,7 +14,7 @@ use Rattle.std.proofs.lemmas.List.{take_all, take-append-drop, drop-drop}
 use Rattle.std.proofs.lemmas.List.Splits.{slice_split_at, slice_split_none, slice_split-cons_no}
 use Rattle.journal_lines.specs.Keys.{is_key}
 use Rattle.journal_lines.specs.Lines.{spelled, IsLine, after_word, line_of}
-use Rattle.journal_lines.specs.Journal.{Lacks, header, rest_of, onto, onto_read, lines_of, text_lines, behind_header}
+use Rattle.journal_lines.specs.Journal.{Lacks, header, rest_of, onto, onto_read, lines_of, text_lines, after_header}
 use Rattle.journal_lines.specs.Replay.{ReplayState, from_header, from_fault, journal_from, Tells, ended_with}
 use Rattle.journal_lines.specs.declared.lines.Line.{Line}
 use Rattle.journal_lines.specs.declared.lines.Line.TheVariants.{Dirty, Clean, Read, Remove}
@@ -46,10 +46,10 @@ after_word-apart (suc n) (c ∷ word) (b ∷ text) more w t e =
 pub bad_header : (n : ℕ) (word left more : List ℕ) (s : ReplayState) → n ≤ length word → n ≤ length left → pointwise nat_eq (take n left) (take n word) ≡ false → from_header word s (left ++ more) ≡ Err BadHeader
 bad_header zero word left more s w l e = cc
 bad_header (suc n) [] left more s w l e = absurd (omega (arith, w))
-bad_header (suc n) (c ∷ word) left more s w l e = ap behind_header (after_word-apart (suc n) (c ∷ word) left more w l e)
+bad_header (suc n) (c ∷ word) left more s w l e = ap after_header (after_word-apart (suc n) (c ∷ word) left more w l e)
 
 -- a text that goes on as the header does
-from_word : (word text : List ℕ) (s : ReplayState) → s.number ≡ 6 → s.begun ≡ [] → behind_header (after_word word text) ≡ from_header word s text
+from_word : (word text : List ℕ) (s : ReplayState) → s.number ≡ 6 → s.begun ≡ [] → after_header (after_word word text) ≡ from_header word s text
 from_word [] text s six none = λ i. text_lines (sym six i) (sym none i ++ text)
 from_word (c ∷ word) text s six none = refl
 
@@ -61,7 +61,7 @@ good_header (suc n) [] left more s t same number begun fresh =
     ∙ ap (λ l. text_lines t.number (t.begun ++ ((l ++ drop (suc n) left) ++ more))) same
 good_header n (c ∷ word) left more s t same number begun fresh =
     let start = fresh (omega arith) in
-    ap behind_header ((λ i. after_word (sym (take-append-drop n (c ∷ word)) i) (sym (take-append-drop n left) i ++ more))
+    ap after_header ((λ i. after_word (sym (take-append-drop n (c ∷ word)) i) (sym (take-append-drop n left) i ++ more))
     ∙ ap (λ l. after_word (take n (c ∷ word) ++ drop n (c ∷ word)) ((l ++ drop n left) ++ more)) same
     ∙ ap (after_word (take n (c ∷ word) ++ drop n (c ∷ word))) (append_assoc (take n (c ∷ word)) (drop n left) more)
     ∙ after_word-both (take n (c ∷ word)) (drop n (c ∷ word)) (drop n left ++ more))
@@ -69,15 +69,8 @@ good_header n (c ∷ word) left more s t same number begun fresh =
 
 -- ---- how long a line is
 
-short_key : (key : List ℕ) → is_key key ≡ true → length key ≤ 120
-short_key key e = leb-true (length key) 120 (second (nat_le 1 (length key)) _ (first _ _ e)) where
-  first : (a b : Bool) → (a && b) ≡ true → a ≡ true
-  first true b e = refl
-  first false b e = cc
-
-  second : (a b : Bool) → (a && b) ≡ true → b ≡ true
-  second true b e = e
-  second false b e = cc
+pub short_key : (key : List ℕ) → is_key key ≡ true → length key ≤ 120
+short_key key e = leb-true (length key) 120 (and_parts (nat_le 1 (length key)) _ (and_parts _ _ e).0).1
 
 keyed_short : (word key : List ℕ) → length word ≤ 7 → is_key key ≡ true → length (word ++ key) ≤ 127
 keyed_short word key short good = omega (arith, short, short_key key good, length-append word key)
@@ -110,7 +103,7 @@ split_behind : (front text : List ℕ) → Lacks 10 front → (h : (p : List ℕ
 split_behind [] text lack h = h.2
 split_behind (b ∷ front) text lack h = slice_split-cons_no (λ b. b == 10) b (front ++ text) lack.0 ∙ ap (onto_first b) (split_behind front text lack.1 h)
 
--- of two fronts that are both too long, each says the same
+-- of two prefixes that are both too long, each says the same
 long_alike : (n : ℕ) (a b p : List ℕ) (ps : List (List ℕ)) → 140 < length a → 140 < length b → lines_of n ((a ++ p) ∷ ps) ≡ lines_of n ((b ++ p) ∷ ps)
 long_alike n [] b p ps la lb = absurd (omega (arith, la))
 long_alike n (x ∷ a) [] p ps la lb = absurd (omega (arith, lb))
@@ -156,7 +149,7 @@ from_lines s text good behind = from_good s text good ∙ ap (λ n. from_header 
 pub from_bad : (s : ReplayState) (text : List ℕ) (fault : JournalFault) → s.fault ≡ Some fault → journal_from s text ≡ Err fault
 from_bad s text fault bad = ap (λ f. from_fault f s text) bad
 
--- what is told behind a step that says the same
+-- what is known after a step that says the same
 pub then_tells : (a b c : ReplayState) (left left' left'' : List ℕ) (r : Result (Option Line) JournalFault) → ((more : List ℕ) → journal_from a (left ++ more) ≡ journal_from b (left' ++ more)) → Tells b left' c left'' r → Tells a left c left'' r
 then_tells a b c left left' left'' (Ok (Some line)) same tells = λ more. same more ∙ tells more
 then_tells a b c left left' left'' (Ok None) same tells = (tells.0, λ more. same more ∙ tells.1 more)
@@ -269,7 +262,7 @@ before_newline text i at = by (nat_lt (position_or_len is_newline text) (length 
   by true e k = let same : i ≡ position_or_len is_newline text = ap (λ o. unwrap_or o i) k in lacks_below text i (omega (arith, same))
   by false e k = cc
 
--- the text up to the newline, and what stands behind it
+-- the text up to the newline, and what stands after it
 pub at_newline : (text : List ℕ) (i : ℕ) → Some i ≡ position is_newline text → text ≡ (take i text ++ 10 ∷ []) ++ drop (i + 1) text
 at_newline text i at =
     let here = position-Some is_newline text i 0 (sym at) in

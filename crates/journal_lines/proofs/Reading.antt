@@ -6,9 +6,9 @@ use Rattle.std.specs.List.{list_all, position, position_or_len}
 use Rattle.std.specs.Cmp.Lexicographic.{pointwise}
 use Rattle.std.specs.Char.{digit_value}
 use Rattle.std.specs.Str.Parse.{digits_value}
-use Rattle.std.proofs.lemmas.Bool.{le-ltb, ltb-false}
+use Rattle.std.proofs.lemmas.Bool.{le-ltb, ltb-false, and_parts}
 use Rattle.std.proofs.lemmas.Str.Parse.{digits_value-take-le}
-use Rattle.journal_lines.specs.Lines.{after_word, at_space, onto_front}
+use Rattle.journal_lines.specs.Lines.{after_word, at_space, onto_parts}
 
 -- ---- words
 
@@ -36,7 +36,7 @@ abbrev parts_at : ℕ → List ℕ → List ℕ × List ℕ
 parts_at i text = (take i text, drop (i + 1) text)
 
 shifted : (b m : ℕ) (text : List ℕ) (t : Bool) → nat_lt m (length text) ≡ t
-    → onto_front b (cond t (Some (parts_at m text)) None) ≡ cond (nat_lt (1 + m) (length (b ∷ text))) (Some (parts_at (1 + m) (b ∷ text))) None
+    → onto_parts b (cond t (Some (parts_at m text)) None) ≡ cond (nat_lt (1 + m) (length (b ∷ text))) (Some (parts_at (1 + m) (b ∷ text))) None
 shifted b m text true e =
     let below = ltb-true m (length text) e in
     let next : suc m ≡ 1 + m = omega arith in
@@ -51,9 +51,9 @@ shifted b m text false e =
 pub at_space-cut : (text : List ℕ) → at_space text ≡ cond (nat_lt (position_or_len is_space text) (length text)) (Some (parts_at (position_or_len is_space text) text)) None
 at_space-cut [] = refl
 at_space-cut (b ∷ text) =
-    elim (b == 32) as (λ t. cond t (Some ([], text)) (onto_front b (at_space text)) ≡ cond (nat_lt (cond (not t) (1 + position_or_len is_space text) 0) (length (b ∷ text))) (Some (parts_at (cond (not t) (1 + position_or_len is_space text) 0) (b ∷ text))) None) [
+    elim (b == 32) as (λ t. cond t (Some ([], text)) (onto_parts b (at_space text)) ≡ cond (nat_lt (cond (not t) (1 + position_or_len is_space text) 0) (length (b ∷ text))) (Some (parts_at (cond (not t) (1 + position_or_len is_space text) 0) (b ∷ text))) None) [
       | true ↦ ap (λ t. cond t (Some ([], text)) None) (sym (lt-ltb 0 (length (b ∷ text)) (omega arith)))
-      | false ↦ ap (onto_front b) (at_space-cut text) ∙ shifted b (position_or_len is_space text) text _ refl
+      | false ↦ ap (onto_parts b) (at_space-cut text) ∙ shifted b (position_or_len is_space text) text _ refl
     ]
 
 pub at_space-position : (text : List ℕ) → option_map (λ i. parts_at i text) (position is_space text) ≡ at_space text
@@ -64,16 +64,12 @@ at_space-position text = by (nat_lt (position_or_len is_space text) (length text
 
 -- ---- lengths
 
-all_true : (a b : Bool) → (a && b) ≡ true → (a ≡ true) × (b ≡ true)
-all_true true b e = (refl, e)
-all_true false b e = cc
-
 pub digit_at : (digits : List ℕ) (i : ℕ) → i < length digits → list_all (λ b. nat_lt (digit_value b) 10) digits ≡ true → digit_value (get_or digits i 0) < 10
 digit_at [] i below e = absurd (omega (arith, below))
-digit_at (d ∷ digits) zero below e = ltb-true (digit_value d) 10 (all_true _ (list_all (λ b. nat_lt (digit_value b) 10) digits) e).0
-digit_at (d ∷ digits) (suc i) below e = digit_at digits i (omega (arith, below)) (all_true (nat_lt (digit_value d) 10) _ e).1
+digit_at (d ∷ digits) zero below e = ltb-true (digit_value d) 10 (and_parts _ (list_all (λ b. nat_lt (digit_value b) 10) digits) e).0
+digit_at (d ∷ digits) (suc i) below e = digit_at digits i (omega (arith, below)) (and_parts (nat_lt (digit_value d) 10) _ e).1
 
--- digits of which a front is too large already are too large
+-- digits of which a prefix is too large already are too large
 pub too_large : (digits : List ℕ) (i n : ℕ) → n ≡ digits_value 10 (take i digits) → 2 ^ 40 ≤ n → ◌≡◌ {A = Option ℕ} None (cond (nat_lt (digits_value 10 digits) (2 ^ 40)) (Some (digits_value 10 digits)) None)
 too_large digits i n is large =
     let more = digits_value-take-le 10 digits i (omega arith) in

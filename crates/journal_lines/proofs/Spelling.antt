@@ -6,13 +6,13 @@ use Rattle.std.specs.Option.{option_map}
 use Rattle.std.specs.Fmt.{decimal}
 use Rattle.std.specs.Char.{digit_value}
 use Rattle.std.specs.Str.Parse.{digits_value, AllDigits}
-use Rattle.std.proofs.lemmas.Bool.{eqb-true, ltb-true}
+use Rattle.std.proofs.lemmas.Bool.{eqb-true, ltb-true, and_parts}
 use Rattle.std.proofs.lemmas.Fmt.{decimal-digits_value}
 use Rattle.std.proofs.lemmas.Str.Parse.{IsNumeralModel}
 use Rattle.std.proofs.lemmas.List.Splits.{join_with_byte-slice_split}
 use Rattle.journal_lines.specs.Keys.{is_key, key_of}
-use Rattle.journal_lines.specs.Lines.{spelled, IsLine, after_word, at_space, onto_front, is_number, length_of, behind, clean_of, line_of}
-use Rattle.journal_lines.specs.Journal.{Lines, rest_of, onto, onto_read, lines_of, text_of, header, journal_of, behind_header}
+use Rattle.journal_lines.specs.Lines.{spelled, IsLine, after_word, at_space, onto_parts, is_number, length_of, read_after, clean_of, line_of}
+use Rattle.journal_lines.specs.Journal.{Lines, rest_of, onto, onto_read, lines_of, text_of, header, journal_of, after_header}
 use Rattle.journal_lines.specs.declared.lines.Rest.{Rest}
 use Rattle.journal_lines.specs.declared.lines.Rest.TheVariants.{Whole, Cut}
 use Rattle.journal_lines.specs.declared.lines.JournalFault.{JournalFault}
@@ -25,10 +25,6 @@ Spells text line = IsLine line × (text ≡ spelled line)
 
 same_some : {A : Type 0} (x y : A) → Some x ≡ Some y → x ≡ y
 same_some x y e = ap (λ o. unwrap_or o x) e
-
-both : (a b : Bool) → (a && b) ≡ true → (a ≡ true) × (b ≡ true)
-both true b e = (refl, e)
-both false b e = cc
 
 after_word-is : (word text rest : List ℕ) → after_word word text ≡ Some rest → text ≡ word ++ rest
 after_word-is [] text rest e = same_some text rest e
@@ -49,12 +45,12 @@ key_of-is bytes key e =
 at_space-is : (text : List ℕ) (cut : List ℕ × List ℕ) → at_space text ≡ Some cut → text ≡ cut.0 ++ 32 ∷ cut.1
 at_space-is [] cut e = cc
 at_space-is (b ∷ text) cut e =
-    elim (b == 32) as (λ t. (b == 32) ≡ t → cond t (Some ([], text)) (onto_front b (at_space text)) ≡ Some cut → b ∷ text ≡ cut.0 ++ 32 ∷ cut.1) [
+    elim (b == 32) as (λ t. (b == 32) ≡ t → cond t (Some ([], text)) (onto_parts b (at_space text)) ≡ Some cut → b ∷ text ≡ cut.0 ++ 32 ∷ cut.1) [
       | true ↦ λ t k. (λ i. eqb-true b 32 t i ∷ text) ∙ ap (λ (c : List ℕ × List ℕ). c.0 ++ 32 ∷ c.1) (same_some ([], text) cut k)
       | false ↦ λ t k. later (at_space text) (λ c f. at_space-is text c f) k
     ] refl e
   where
-    later : (o : Option (List ℕ × List ℕ)) → ((c : List ℕ × List ℕ) → o ≡ Some c → text ≡ c.0 ++ 32 ∷ c.1) → onto_front b o ≡ Some cut → b ∷ text ≡ cut.0 ++ 32 ∷ cut.1
+    later : (o : Option (List ℕ × List ℕ)) → ((c : List ℕ × List ℕ) → o ≡ Some c → text ≡ c.0 ++ 32 ∷ c.1) → onto_parts b o ≡ Some cut → b ∷ text ≡ cut.0 ++ 32 ∷ cut.1
     later None f k = cc
     later (Some c) f k = ap (λ l. b ∷ l) (f c refl) ∙ ap (λ (d : List ℕ × List ℕ). d.0 ++ 32 ∷ d.1) (same_some (b ∷ c.0, c.1) cut k)
 
@@ -63,7 +59,7 @@ own_digits = record { to = λ ds h. h; from = λ ds h. h; same = λ ds h. refl }
 
 all_digits : (ds : List ℕ) → list_all (λ b. nat_lt (digit_value b) 10) ds ≡ true → AllDigits 10 ds
 all_digits [] e = tt
-all_digits (d ∷ ds) e = let h = both (nat_lt (digit_value d) 10) (list_all (λ b. nat_lt (digit_value b) 10) ds) e in (ltb-true (digit_value d) 10 h.0, all_digits ds h.1)
+all_digits (d ∷ ds) e = let h = and_parts (nat_lt (digit_value d) 10) (list_all (λ b. nat_lt (digit_value b) 10) ds) e in (ltb-true (digit_value d) 10 h.0, all_digits ds h.1)
 
 no_zero : (n : ℕ) (ds : List ℕ) → (length ds == 1 || nat_lt 48 (get_or ds 0 0)) ≡ true → get_or ds 0 0 ≡ 48 → length ds ≡ 1
 no_zero n ds e first = by_length (length ds == 1) refl e where
@@ -75,16 +71,16 @@ length_of-is : (bytes : List ℕ) (n : ℕ) → length_of bytes ≡ Some n → (
 length_of-is bytes n e =
     elim (is_number bytes && nat_lt (digits_value 10 bytes) (2 ^ 40)) as (λ t. (is_number bytes && nat_lt (digits_value 10 bytes) (2 ^ 40)) ≡ t → cond t (Some (digits_value 10 bytes)) None ≡ Some n → (n < 2 ^ 40) × (bytes ≡ decimal n)) [
       | true ↦ λ t k.
-          let h = both (is_number bytes) (nat_lt (digits_value 10 bytes) (2 ^ 40)) t in
-          let p = both (list_all (λ b. nat_lt (digit_value b) 10) bytes && nat_lt 0 (length bytes)) (length bytes == 1 || nat_lt 48 (get_or bytes 0 0)) h.0 in
-          let q = both (list_all (λ b. nat_lt (digit_value b) 10) bytes) (nat_lt 0 (length bytes)) p.0 in
+          let h = and_parts (is_number bytes) (nat_lt (digits_value 10 bytes) (2 ^ 40)) t in
+          let p = and_parts (list_all (λ b. nat_lt (digit_value b) 10) bytes && nat_lt 0 (length bytes)) (length bytes == 1 || nat_lt 48 (get_or bytes 0 0)) h.0 in
+          let q = and_parts (list_all (λ b. nat_lt (digit_value b) 10) bytes) (nat_lt 0 (length bytes)) p.0 in
           let is = same_some (digits_value 10 bytes) n k in
           let small : digits_value 10 bytes < 2 ^ 40 = ltb-true (digits_value 10 bytes) (2 ^ 40) h.1 in
           (omega (arith, small, is), sym (decimal-digits_value own_digits bytes (all_digits bytes q.0) (ltb-true 0 (length bytes) q.1) (no_zero 0 bytes p.1) (omega (arith, small))) ∙ ap decimal is)
       | false ↦ λ t k. cc
     ] refl e
 
--- behind a word that is there
+-- after a word that is there
 keyed : (make : List ℕ → Line) (word text rest : List ℕ) (line : Line) → ((key : List ℕ) → is_key key ≡ true → IsLine (make key)) → ((key : List ℕ) → spelled (make key) ≡ word ++ key)
     → after_word word text ≡ Some rest → (o : Option (List ℕ)) → key_of rest ≡ o → option_map make o ≡ Some line → Spells text line
 keyed make word text rest line good spell e None f j = cc
@@ -111,9 +107,9 @@ cleaned text rest line e k = by_space (at_space rest) refl k where
   by_space None s j = cc
   by_space (Some cut) s j = by_key cut (key_of cut.0) s refl j
 
--- behind a word or not
+-- after a word or not
 parted : (text : List ℕ) (line : Line) (word : List ℕ) (read : List ℕ → Option Line) (other : Option Line) (o : Option (List ℕ)) → after_word word text ≡ o
-    → ((rest : List ℕ) → after_word word text ≡ Some rest → read rest ≡ Some line → Spells text line) → (other ≡ Some line → Spells text line) → behind o read other ≡ Some line → Spells text line
+    → ((rest : List ℕ) → after_word word text ≡ Some rest → read rest ≡ Some line → Spells text line) → (other ≡ Some line → Spells text line) → read_after o read other ≡ Some line → Spells text line
 parted text line word read other None e here there k = there k
 parted text line word read other (Some rest) e here there k = here rest e k
 
@@ -163,7 +159,7 @@ lines_whole n (part ∷ (next ∷ parts)) lines e = more_parts n part next parts
 -- a whole journal is the header and the text of its lines
 pub journal_whole : (text : List ℕ) (lines : List Line) → journal_of text ≡ Ok (lines, Whole) → AllByRecursion IsLine lines × (text ≡ header ++ text_of lines)
 journal_whole text lines e = behind (after_word header text) refl e where
-  behind : (o : Option (List ℕ)) → after_word header text ≡ o → behind_header o ≡ Ok (lines, Whole) → AllByRecursion IsLine lines × (text ≡ header ++ text_of lines)
+  behind : (o : Option (List ℕ)) → after_word header text ≡ o → after_header o ≡ Ok (lines, Whole) → AllByRecursion IsLine lines × (text ≡ header ++ text_of lines)
   behind None f k = cc
   behind (Some rest) f k =
       let h = lines_whole 6 (slice_split (λ b. b == 10) rest) lines k in

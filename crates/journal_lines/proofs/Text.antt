@@ -5,13 +5,13 @@ use Rattle.std.specs.Option.{option_map}
 use Rattle.std.specs.Fmt.{decimal}
 use Rattle.std.specs.Str.Parse.{digits_value, AllDigits}
 use Rattle.std.specs.Char.{digit_value}
-use Rattle.std.proofs.lemmas.Bool.{eqb-true, eq-eqb, lt-ltb, ltb-true, ltb-false}
+use Rattle.std.proofs.lemmas.Bool.{eqb-true, eq-eqb, lt-ltb, ltb-true, ltb-false, and_parts, or_right}
 use Rattle.std.proofs.lemmas.Fmt.{decimal_is_IsNumeral, decimal_digit, first_decimal}
 use Rattle.std.proofs.lemmas.List.Elements.{All-from_recursion}
 use Rattle.std.proofs.lemmas.List.Splits.{slice_split_none, slice_split_at}
 use Rattle.journal_lines.specs.Keys.{is_key, is_key_byte, key_of}
-use Rattle.journal_lines.specs.Lines.{spelled, IsLine, is_number, after_word, at_space, onto_front, length_of, clean_of, line_of}
-use Rattle.journal_lines.specs.Journal.{Lacks, header, ended, text_of, rest_of, onto, onto_read, lines_of, behind_header, journal_of}
+use Rattle.journal_lines.specs.Lines.{spelled, IsLine, is_number, after_word, at_space, onto_parts, length_of, clean_of, line_of}
+use Rattle.journal_lines.specs.Journal.{Lacks, header, ended, text_of, rest_of, onto, onto_read, lines_of, after_header, journal_of}
 use Rattle.journal_lines.specs.declared.lines.Line.{Line}
 use Rattle.journal_lines.specs.declared.lines.Line.TheVariants.{Dirty, Clean, Read, Remove}
 
@@ -21,20 +21,16 @@ pub after_word-append : (word text : List ℕ) → after_word word (word ++ text
 after_word-append [] text = refl
 after_word-append (c ∷ word) text = ap (λ b. cond b (after_word word (word ++ text)) None) (eq-eqb c c refl) ∙ after_word-append word text
 
-both_true : (a b : Bool) → (a && b) ≡ true → (a ≡ true) × (b ≡ true)
-both_true true b e = (refl, e)
-both_true false b e = cc
-
 differ : (b c : ℕ) (p : ℕ → Bool) → p b ≡ true → p c ≡ false → (t : Bool) → (b == c) ≡ t → t ≡ false
 differ b c p is isnt true e = let same = eqb-true b c e in let h : p c ≡ true = ap p (sym same) ∙ is in cc
 differ b c p is isnt false e = refl
 
 pub lacks : (c : ℕ) (p : ℕ → Bool) → p c ≡ false → (bytes : List ℕ) → list_all p bytes ≡ true → Lacks c bytes
 lacks c p isnt [] e = tt
-lacks c p isnt (b ∷ bytes) e = let h = both_true (p b) (list_all p bytes) e in (differ b c p h.0 isnt _ refl, lacks c p isnt bytes h.1)
+lacks c p isnt (b ∷ bytes) e = let h = and_parts (p b) (list_all p bytes) e in (differ b c p h.0 isnt _ refl, lacks c p isnt bytes h.1)
 
 pub key_bytes : (key : List ℕ) → is_key key ≡ true → list_all is_key_byte key ≡ true
-key_bytes key e = (both_true _ (list_all is_key_byte key) e).1
+key_bytes key e = (and_parts _ (list_all is_key_byte key) e).1
 
 pub lacks-append : (c : ℕ) (xs ys : List ℕ) → Lacks c xs → Lacks c ys → Lacks c (xs ++ ys)
 lacks-append c [] ys h k = k
@@ -52,7 +48,7 @@ digits_lack (d ∷ ds) h = (no_digit d h.0 _ refl, digits_lack ds h.1)
 
 at_space-append : (key rest : List ℕ) → Lacks 32 key → at_space (key ++ 32 ∷ rest) ≡ Some (key, rest)
 at_space-append [] rest h = refl
-at_space-append (b ∷ key) rest h = ap (λ t. cond t (Some ([], key ++ 32 ∷ rest)) (onto_front b (at_space (key ++ 32 ∷ rest)))) h.0 ∙ ap (onto_front b) (at_space-append key rest h.1)
+at_space-append (b ∷ key) rest h = ap (λ t. cond t (Some ([], key ++ 32 ∷ rest)) (onto_parts b (at_space (key ++ 32 ∷ rest)))) h.0 ∙ ap (onto_parts b) (at_space-append key rest h.1)
 
 key_of-key : (key : List ℕ) → is_key key ≡ true → key_of key ≡ Some key
 key_of-key key e = ap (λ t. cond t (Some key) None) e
@@ -60,10 +56,6 @@ key_of-key key e = ap (λ t. cond t (Some key) None) e
 all_digits : (ds : List ℕ) → AllDigits 10 ds → list_all (λ b. nat_lt (digit_value b) 10) ds ≡ true
 all_digits [] h = refl
 all_digits (d ∷ ds) h = (λ i. lt-ltb (digit_value d) 10 h.0 i && all_digits ds h.1 i)
-
-or_right : (a b : Bool) → b ≡ true → (a || b) ≡ true
-or_right true b e = refl
-or_right false b e = e
 
 first_digit : (n : ℕ) → n < 2 ^ 64 → (t : Bool) → nat_lt n 10 ≡ t → (length (decimal n) == 1 || nat_lt 48 (get_or (decimal n) 0 0)) ≡ true
 first_digit n lt true e = ap (λ ds. length ds == 1 || nat_lt 48 (get_or ds 0 0)) (decimal_digit n (ltb-true n 10 e))
@@ -132,4 +124,4 @@ lines_of-text n (line ∷ lines) tail good lack =
     ∙ ap (onto line) (lines_of-text (n + 1) lines tail good.1 lack)
 
 pub journal_of-text : (lines : List Line) (tail : List ℕ) → AllByRecursion IsLine lines → Lacks 10 tail → journal_of (header ++ (text_of lines ++ tail)) ≡ Ok (lines, rest_of tail)
-journal_of-text lines tail good lack = ap behind_header (after_word-append header (text_of lines ++ tail)) ∙ lines_of-text 6 lines tail good lack
+journal_of-text lines tail good lack = ap after_header (after_word-append header (text_of lines ++ tail)) ∙ lines_of-text 6 lines tail good lack

@@ -7,7 +7,7 @@ ghost use Rattle.journal_lines.specs.declared.lines.Line.{Line};
 ghost use Rattle.journal_lines.specs.declared.lines.Rest.TheVariants.{Whole};
 
 /// A line is read as it is written, and every text that is read as a line is that line's spelling. No line has a newline
-/// within it. The lines of a text are those that it was made of, with what stands behind the last newline left out.
+/// within it. The lines of a text are those that it was made of, with what stands after the last newline left out.
 pub fn text_is_its_lines()
     ensures line { (line : Line) → IsLine line → line_of (spelled line) ≡ Some line }
     ensures spelling { (text : List ℕ) (line : Line) → line_of text ≡ Some line

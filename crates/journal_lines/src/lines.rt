@@ -37,28 +37,28 @@ pub enum JournalFault {
     BadLine(u64),
 }
 
-// What stands behind a word at the front.
+// What stands after a word at the start.
 fn after_word<'a>(word: &[u8], text: &'a [u8]) -> Option<&'a [u8]>
     ensures { option_map (λ rest. rest.now) result ≡ after_word word.now text.now }
 {
     text.strip_prefix(word)
 }
 
-// A key behind `DIRTY`.
+// A key after `DIRTY`.
 fn read_dirty(rest: &[u8]) -> Option<Line>
     ensures { result ≡ option_map Dirty (key_of rest.now) }
 {
     Some(Line::Dirty(Key::read(rest)?))
 }
 
-// A key behind `READ`.
+// A key after `READ`.
 fn read_read(rest: &[u8]) -> Option<Line>
     ensures { result ≡ option_map Read (key_of rest.now) }
 {
     Some(Line::Read(Key::read(rest)?))
 }
 
-// A key behind `REMOVE`.
+// A key after `REMOVE`.
 fn read_remove(rest: &[u8]) -> Option<Line>
     ensures { result ≡ option_map Remove (key_of rest.now) }
 {
@@ -71,7 +71,7 @@ fn first_space(text: &[u8]) -> Option<usize>
     text.iter().position(|byte| *byte == b' ')
 }
 
-// What stands before the first space, and behind it.
+// What stands before the first space, and after it.
 fn at_space(text: &[u8]) -> Option<(&[u8], &[u8])>
     ensures { option_map (λ parts. (parts.0.now, parts.1.now)) result ≡ at_space text.now }
 {
@@ -81,7 +81,7 @@ fn at_space(text: &[u8]) -> Option<(&[u8], &[u8])>
     }
 }
 
-// A key and a length behind `CLEAN`.
+// A key and a length after `CLEAN`.
 fn read_clean(rest: &[u8]) -> Option<Line>
     ensures { result ≡ clean_of (at_space rest.now) }
 {

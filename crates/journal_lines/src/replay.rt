@@ -84,7 +84,7 @@ impl Replay {
         }
     }
 
-    /// The next whole line of the stream, of which `piece` is read from `at` on: `at` moves behind what was
+    /// The next whole line of the stream, of which `piece` is read from `at` on: `at` moves past what was
     /// read. None comes where the piece is used up. A fault comes exactly where the text has it, and again at
     /// each later call.
     pub fn next(&mut self, piece: &[u8], at: &mut usize) -> Result<Option<Line>, JournalFault>
@@ -149,10 +149,10 @@ impl Replay {
         }
     }
 
-    // The next line, behind the header.
+    // The next line, after the header.
     fn next_line(&mut self, piece: &[u8], at: &mut usize) -> Result<Option<Line>, JournalFault>
         requires good { self.old.fault ≡ None }
-        requires behind { self.old.header_read ≡ 31 }
+        requires after_header { self.old.header_read ≡ 31 }
         requires within { at.old ≤ length piece.now }
         requires size { self.old.read + (length piece.now - at.old) < 2 ^ 64 }
         ensures on { at.old ≤ at.new }
@@ -179,7 +179,7 @@ impl Replay {
     // Keeps what was read of a line.
     fn go_on(&mut self, left: &[u8])
         requires good { self.old.fault ≡ None }
-        requires behind { self.old.header_read ≡ 31 }
+        requires after_header { self.old.header_read ≡ 31 }
         requires lacks { Lacks 10 left.now }
         requires size { self.old.read + length left.now < 2 ^ 64 }
         ensures read { self.new.read ≡ self.old.read + length left.now }
@@ -189,10 +189,10 @@ impl Replay {
         self.read += left.len() as u64;
     }
 
-    // Reads the line that ends behind these bytes, which a newline follows.
+    // Reads the line that ends with these bytes, which a newline follows.
     fn end_line(&mut self, front: &[u8]) -> Result<Option<Line>, JournalFault>
         requires good { self.old.fault ≡ None }
-        requires behind { self.old.header_read ≡ 31 }
+        requires after_header { self.old.header_read ≡ 31 }
         requires lacks { Lacks 10 front.now }
         requires size { self.old.read + length front.now + 1 < 2 ^ 64 }
         ensures read { self.new.read ≡ self.old.read + length front.now + 1 }

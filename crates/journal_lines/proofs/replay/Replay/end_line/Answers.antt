@@ -10,7 +10,7 @@ pub returns-then-is_none-clause-tells : goal.returns-then-is_none-clause-tells
 returns-then-is_none-clause-tells c = (
   refl,
   λ more.
-      bad_line c.args.self.now c.args.front.now c.line_with-line.result (none_of c.line_with-line.result (c.is_none.ensures ∙ ap not c.if-is_none.true)) c.requires.good c.requires.behind
+      bad_line c.args.self.now c.args.front.now c.line_with-line.result (none_of c.line_with-line.result (c.is_none.ensures ∙ ap not c.if-is_none.true)) c.requires.good c.requires.after_header
       (subst (λ (s : ReplayState). Lacks 10 s.begun) c.self.view_is c.self.invariant.begun) c.requires.lacks
       (c.line_with-line.ensures.line ∙ ap (λ (s : ReplayState). line_of (s.begun ++ c.args.front.now)) c.self.view_is) more
       ∙ ap (λ (s : ReplayState). Err (BadLine s.number)) (sym c.self.view_is),
@@ -19,7 +19,7 @@ returns-then-is_none-clause-tells c = (
 pub returns-clause-tells : goal.returns-clause-tells
 returns-clause-tells c =
     good_line c.args.self.now (record { read = c.self.inside.read + (length c.args.front.now + 1); header_read = c.self.inside.header_read; number = c.self.inside.number + 1; begun = c.line_with-line.new.begun; fault = c.self.inside.fault }) c.args.front.now c.line_with-line.result
-    (c.is_none.ensures ∙ ap not c.if-is_none.false) c.requires.good c.requires.behind
+    (c.is_none.ensures ∙ ap not c.if-is_none.false) c.requires.good c.requires.after_header
     (subst (λ (s : ReplayState). Lacks 10 s.begun) c.self.view_is c.self.invariant.begun) c.requires.lacks
     (c.line_with-line.ensures.line ∙ ap (λ (s : ReplayState). line_of (s.begun ++ c.args.front.now)) c.self.view_is)
     (ap (λ (s : ReplayState). s.fault) c.self.view_is) (ap (λ (s : ReplayState). s.header_read) c.self.view_is) (ap (λ (s : ReplayState). s.number + 1) c.self.view_is) c.line_with-line.ensures.clear
