@@ -1,4 +1,5 @@
--- The loads as a finite map by owner and number. The states are those that Glide's EngineJob leaves its callbacks in; that a failed load keeps its cause, and the numbers, are this project's own.
+-- The loads as a finite map by owner and number. The states are those that Glide's EngineJob leaves its callbacks in;
+-- that a failed load keeps its cause, and the numbers, are this project's own.
 use Rattle.std.specs.Prelude.{ℕ, Bool, false, ◌==◌, if◌then◌else◌}
 use Rattle.std.specs.declared.cmp.Ordering.{Ordering}
 use Rattle.std.specs.Ordering.{nat_cmp, ordering_then}

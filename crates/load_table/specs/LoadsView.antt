@@ -24,7 +24,8 @@ loads_of entries = from_entries (map entry_of entries)
 -- No two entries are of one load.
 abbrev pub AreApart : {C : Type 0} → List (LoadEntry C) → Type 0
 AreApart [] = Unit {0}
-AreApart (entry ∷ entries) = (find load_cmp (name_of entry) (map entry_of entries) ≡ None) × AreApart entries
+AreApart (entry ∷ entries) =
+    (find load_cmp (name_of entry) (map entry_of entries) ≡ None) × AreApart entries
 
 -- the entry of this load, if there is one
 abbrev pub found_as : {C : Type 0} → LoadName → List (LoadEntry C) → Option (LoadName × LoadState C)

@@ -5,7 +5,7 @@ use Rattle.load_table.specs.declared.loads.Settle.{Settle}
 use Rattle.load_table.specs.declared.loads.Settle.TheVariants as settles
 use Rattle.load_table.specs.Loads.{settled}
 
--- Where a job has ended so, loads in these states come to those; a failure is told by a number.
+-- Where a job has ended so, loads in these states come to those; a failure is known by a number.
 abbrev pub Ends : ℕ → Settle ℕ → List (LoadState ℕ) → List (LoadState ℕ) → Type 0
 Ends job to before after = map (settled job to) before ≡ after
 

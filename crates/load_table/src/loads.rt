@@ -104,7 +104,8 @@ fn settled_entry<C: Copy>(entry: LoadEntry<C>, job: u64, to: Settle<C>) -> LoadE
 
 // The place of a load's entry, or how many entries there are.
 fn place_of<C: Copy>(entries: &[LoadEntry<C>], owner: u32, number: u64) -> usize
-    ensures { option_map entry_of (slice_get entries.now result) ≡ found_as (owner, number) entries.now }
+    ensures { option_map entry_of (slice_get entries.now result) ≡
+        found_as (owner, number) entries.now }
 {
     for i in 0..entries.len() {
         if entries[i].owner == owner && entries[i].number == number {
@@ -186,7 +187,8 @@ impl<C: Copy> LoadTable<C> {
     /// Each load that waits on the job comes to this state. It answers how many there were.
     pub fn settle(&mut self, job: u64, to: Settle<C>) -> u32
         ensures count { result ≡ waiting job self.old.loads }
-        ensures loads { self.new ≡ record self.old { loads = map_values (settled job to) self.old.loads } }
+        ensures loads { self.new ≡
+            record self.old { loads = map_values (settled job to) self.old.loads } }
     {
         let count = self.waiting(job);
         for i in 0..self.entries.len() {
