@@ -4,7 +4,5 @@
 mod live_jobs;
 mod replies;
 mod tables;
-mod told;
 
 pub use replies::{Limits, Piece, Reply};
-pub use told::Told;

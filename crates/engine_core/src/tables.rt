@@ -13,7 +13,6 @@ ghost use Rattle.engine_core.specs.Conditions.{IsShown, IsLive};
 
 use crate::live_jobs::{JobEnds, JobGives, JobRuns, NoJobs, Return, Start};
 use crate::replies::{PIECE, Piece, Reply};
-use crate::told::Told;
 use active_resources::Active;
 use bitmap_kind::Bitmap;
 use bitmap_pool::{Pool, numbers_stand_for_bitmaps};
@@ -23,6 +22,7 @@ use job_table::JobTable;
 use load_cause::Cause;
 use load_table::{LoadState, LoadTable, Settle};
 use memory_cache::Cache;
+use outside::Told;
 use resource_table::ResourceTable;
 use snapshots::update_snapshot;
 use std::alloc::Global;

@@ -8,11 +8,10 @@ use Rattle.std.proofs.lemmas.Option.{slice_get_within, get_or_from_slice_get}
 use Rattle.std.specs.declared.option.Option.{Option}
 use Rattle.std.specs.Option.{option_map, is_none}
 use Rattle.std.specs.Ordering.{nat_cmp}
-use Rattle.std.specs.FinMap.{FinMap, get, empty, empty_of_len, insert, remove, entries, from_sorted, find, is_sorted, get-from_sorted, nat_cmp-IsAntisymmetric}
+use Rattle.std.specs.FinMap.{get, empty, empty_of_len, insert, remove, entries, from_sorted, find, is_sorted, get-from_sorted, nat_cmp-IsAntisymmetric}
 use Rattle.std.proofs.lemmas.Cmp.{nat_cmp_total}
-use Rattle.cache_key.specs.Key.{Key}
 use Rattle.cache_key.specs.declared.load_spec.LoadSpec.{LoadSpec}
-use Rattle.finite_maps.specs.MapLaws.{modify_there, not_Some, same_Some, insert_cases, remove_found}
+use Rattle.finite_maps.specs.MapLaws.{modify_there, not_Some, insert_cases, remove_found}
 use Rattle.finite_maps.specs.SortedEntries.{all_below, len-sorted, is_map, map_sorted, get-sorted_at, entries-set, entries-push, entries-removed, all_below-set, all_below-removed, all_below-push}
 use Rattle.job_table.specs.declared.jobs.Job.{Job}
 use Rattle.finite_maps.specs.Maps.{passes, modify}

@@ -1,9 +1,7 @@
 -- What the table's two searches find.
-use Rattle.std.proofs.Common.{◌≡◌, ◌≢◌, ℕ, ◌<◌, ◌≤◌, Bool, true, false, cond, List, Some, None, refl, ap, sym, subst, ◌∙◌, inl, inr, arith, eqb}
-use Rattle.std.specs.Prelude.{T, not, ◌&&◌, ◌↔◌, ◌⊎◌, IsTrue}
-use Rattle.std.specs.declared.option.Option.{Option}
-use Rattle.std.specs.Option.{is_none}
-use Rattle.std.specs.Ordering.{nat_cmp, is_lt}
+use Rattle.std.proofs.Common.{◌≡◌, ◌≢◌, ℕ, ◌<◌, ◌≤◌, Bool, true, false, List, Some, None, refl, ap, sym, subst, ◌∙◌, inl, inr, arith, eqb}
+use Rattle.std.specs.Prelude.{T, not, ◌↔◌, IsTrue}
+use Rattle.std.specs.Ordering.{nat_cmp}
 use Rattle.std.specs.FinMap.{get, from_sorted, is_sorted, nat_cmp-IsAntisymmetric}
 use Rattle.std.proofs.lemmas.Bool.{eqb-true, eqb-false, eq-eqb, and_parts, and_from}
 use Rattle.std.proofs.lemmas.Cmp.{nat_cmp_total}
@@ -11,8 +9,8 @@ use Rattle.std.proofs.lemmas.Map.Keys.{ge_from_not_lt}
 use Rattle.cache_key.specs.Key.{Key, same_key}
 use Rattle.cache_key.specs.declared.load_spec.Priority.{Priority}
 use Rattle.cache_key.specs.declared.load_spec.Priority.TheVariants.{Immediate, High, Normal, Low}
-use Rattle.finite_maps.specs.Maps.{first_key, passes}
-use Rattle.finite_maps.specs.MapLaws.{IsLeast, not_Some, same_Some, first_key-found, first_key-none, first_key-least}
+use Rattle.finite_maps.specs.Maps.{passes}
+use Rattle.finite_maps.specs.MapLaws.{not_Some, same_Some, first_key-found, first_key-none, first_key-least}
 use Rattle.finite_maps.specs.SortedEntries.{first_key-sorted}
 use Rattle.job_table.specs.declared.jobs.Job.{Job}
 use Rattle.job_table.specs.inside.Entries.{queued_among, next_among}

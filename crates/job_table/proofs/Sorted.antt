@@ -1,5 +1,5 @@
 -- The table's answers on jobs that are listed in the order of their numbers, and what its calls leave of them.
-use Rattle.std.proofs.Common.{◌≡◌, ℕ, suc, Bool, true, false, cond, List, ◌++◌, take, drop, Some, refl, ap, sym, ◌∙◌}
+use Rattle.std.proofs.Common.{◌≡◌, ℕ, suc, Bool, true, false, cond, List, ◌++◌, take, drop, Some, ap, sym, ◌∙◌}
 use Rattle.std.specs.Prelude.{T, slice_get, slice_set}
 use Rattle.std.specs.Ordering.{nat_cmp}
 use Rattle.std.specs.FinMap.{get, insert, remove, from_sorted, is_sorted, nat_cmp-IsAntisymmetric}

@@ -1,9 +1,11 @@
--- The live jobs of the engine by their numbers, and what the calls of their table answer. That loads of one key share a job, and that a job of higher priority starts first, is Glide's (its Jobs, EngineJob and Priority). Numbers, and that a queued job that is cancelled goes at once, are this project's own.
+-- The live jobs of the engine by their numbers, and what the calls of their table answer. That loads of one key share a
+-- job, and that a job of higher priority starts first, is Glide's (its Jobs, EngineJob and Priority). Numbers, and that a
+-- queued job that is cancelled goes at once, are this project's own.
 use Rattle.std.specs.Prelude.{◌≡◌, ℕ, ◌<◌, ◌≤◌, ◌⊎◌, Bool, true, false, not, ◌&&◌, ◌==◌, Some, None, if◌then◌else◌}
 use Rattle.std.specs.declared.option.Option.{Option}
 use Rattle.std.specs.Option.{is_none}
 use Rattle.std.specs.Ordering.{nat_cmp}
-use Rattle.std.specs.FinMap.{FinMap, get, insert, remove}
+use Rattle.std.specs.FinMap.{FinMap, get, remove}
 use Rattle.cache_key.specs.Key.{Key, same_key}
 use Rattle.cache_key.specs.declared.load_spec.LoadSpec.{LoadSpec}
 use Rattle.cache_key.specs.declared.load_spec.Priority.{Priority}
@@ -41,7 +43,8 @@ same_kind true b = b
 same_kind false b = not b
 
 abbrev pub serves : Key → Bool → Job → Bool
-serves key cached job = same_key job.spec.key key && same_kind job.spec.cached cached && not job.cancelled
+serves key cached job =
+    same_key job.spec.key key && same_kind job.spec.cached cached && not job.cancelled
 
 abbrev pub job_for : Key → Bool → Jobs → Option ℕ
 job_for key cached jobs = first_key (λ number job. serves key cached job) jobs
@@ -84,21 +87,26 @@ or_else (Some number) second = Some number
 
 -- the queued job of first priority, and of these the one of least number
 abbrev pub next_queued : Jobs → Option ℕ
-next_queued jobs = or_else (queued_at Immediate jobs) (or_else (queued_at High jobs) (or_else (queued_at Normal jobs) (queued_at Low jobs)))
+next_queued jobs =
+    or_else (queued_at Immediate jobs) (or_else (queued_at High jobs)
+    (or_else (queued_at Normal jobs) (queued_at Low jobs)))
 
 -- One stands before another by its priority, and with the same priority by its number.
 abbrev pub Precedes : Priority → ℕ → Priority → ℕ → Type 0
-Precedes priority number other_priority other = (rank priority < rank other_priority) ⊎ ((rank priority ≡ rank other_priority) × (number ≤ other))
+Precedes priority number other_priority other =
+    (rank priority < rank other_priority) ⊎ ((rank priority ≡ rank other_priority) × (number ≤ other))
 
 -- The job of this number is queued, and stands before each queued one.
 pub record IsNext (jobs : Jobs) (number : ℕ) : Type 0 where
   pub job : Job
   pub live : get jobs number ≡ Some job
   pub queued : is_queued job ≡ true
-  pub first : (other : ℕ) (rival : Job) → get jobs other ≡ Some rival → is_queued rival ≡ true → Precedes job.spec.priority number rival.spec.priority other
+  pub first : (other : ℕ) (rival : Job) → get jobs other ≡ Some rival → is_queued rival ≡ true
+    → Precedes job.spec.priority number rival.spec.priority other
 
 -- ---- a job on which no load waits any more
 
 -- A queued job goes, and a running one is marked.
 abbrev pub after_cancel : Jobs → ℕ → Jobs
-after_cancel jobs number = if queued_in jobs number then remove jobs number else modify jobs number marked
+after_cancel jobs number =
+    if queued_in jobs number then remove jobs number else modify jobs number marked

@@ -1,5 +1,5 @@
 -- Worked examples of the jobs. They are this project's own.
-use Rattle.std.specs.Prelude.{◌≡◌, ℕ, Bool, true, false, List, Some, None}
+use Rattle.std.specs.Prelude.{◌≡◌, ℕ, Bool, false, List}
 use Rattle.std.specs.declared.option.Option.{Option}
 use Rattle.std.specs.FinMap.{from_sorted}
 use Rattle.cache_key.specs.declared.load_spec.LoadSpec.{LoadSpec}
@@ -11,7 +11,13 @@ use Rattle.job_table.specs.Jobs.{queued_job, run_on, marked, job_for, next_queue
 
 -- a load of the red picture at this priority
 abbrev pub red_load : Priority → LoadSpec
-red_load priority = record { key = red_key; strategy = Automatic; priority = priority; skip = false; cached = false }
+red_load priority = record {
+  key = red_key;
+  strategy = Automatic;
+  priority = priority;
+  skip = false;
+  cached = false;
+}
 
 -- its job in each of its states
 abbrev pub waits : Priority → Job

@@ -97,7 +97,8 @@ fn first_queued(jobs: &[(u64, Job)]) -> Option<u64>
 
 // Where a number stands, or how many there are where it does not.
 fn place_of(jobs: &[(u64, Job)], number: u64) -> usize
-    ensures { slice_get jobs.now result ≡ option_map (λ job. (number, job)) (find nat_cmp number jobs.now) }
+    ensures { slice_get jobs.now result ≡
+        option_map (λ job. (number, job)) (find nat_cmp number jobs.now) }
 {
     for i in 0..jobs.len() {
         if jobs[i].0 == number {
@@ -126,7 +127,10 @@ impl JobTable {
         requires few { self.old.added < 18446744073709551615 }
         ensures number { result ≡ self.old.added }
         ensures added { let number = self.old.added in
-            self.new ≡ record self.old { added = number + 1; jobs = insert self.old.jobs number (queued_job spec) } }
+            self.new ≡ record self.old {
+                added = number + 1;
+                jobs = insert self.old.jobs number (queued_job spec);
+            } }
     {
         same_key_is_equality();
         let number = self.added;
@@ -143,8 +147,10 @@ impl JobTable {
     /// The live job of this key and kind that is not cancelled. `cached` is the kind: whether only what is cached may answer.
     pub fn find(&self, key: &EngineKey, cached: bool) -> Option<u64>
         ensures value { result ≡ job_for key.now cached self.now.jobs }
-        ensures it { (number : ℕ) → (result ≡ Some number) ↔ IsJobFor key.now cached self.now.jobs number }
-        ensures none { (result ≡ None) ↔ ((number : ℕ) → ¬ (IsJobFor key.now cached self.now.jobs number)) }
+        ensures it { (number : ℕ) →
+            (result ≡ Some number) ↔ IsJobFor key.now cached self.now.jobs number }
+        ensures none { (result ≡ None) ↔
+            ((number : ℕ) → ¬ (IsJobFor key.now cached self.now.jobs number)) }
     {
         same_key_is_equality();
         first_serving(&self.jobs, key, cached)

@@ -12,4 +12,5 @@ queued_among priority entries = first_in (λ number job. is_queued_at priority j
 
 abbrev pub next_among : List (ℕ × Job) → Option ℕ
 next_among entries =
-    or_else (queued_among Immediate entries) (or_else (queued_among High entries) (or_else (queued_among Normal entries) (queued_among Low entries)))
+    or_else (queued_among Immediate entries) (or_else (queued_among High entries)
+    (or_else (queued_among Normal entries) (queued_among Low entries)))

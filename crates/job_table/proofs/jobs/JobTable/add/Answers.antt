@@ -1,18 +1,11 @@
-use Rattle.std.proofs.Common.{◌≡◌, ℕ, ◌+◌, ◌<◌, ◌≤◌, ◌++◌, [], ◌∷◌, true, false, cond, List, length, get_or, Some, None, refl, ap, sym, subst, ◌∙◌, arith}
-use Rattle.std.specs.Prelude.{T, slice_get, slice_set, IsSome}
-use Rattle.std.specs.Option.{option_map}
-use Rattle.std.specs.Ordering.{nat_cmp}
-use Rattle.std.specs.FinMap.{get, len, insert, remove, from_sorted, is_sorted, nat_cmp-IsAntisymmetric}
+use Rattle.std.proofs.Common.{◌≡◌, ℕ, ◌+◌, ◌<◌, ◌++◌, [], ◌∷◌, cond, List, length, None, ap, sym, subst, ◌∙◌, arith}
+use Rattle.std.specs.FinMap.{len, insert, nat_cmp-IsAntisymmetric}
 use Rattle.std.proofs.lemmas.Cmp.{nat_cmp_total}
-use Rattle.std.proofs.lemmas.Option.{slice_get_within, get_or_from_slice_get}
-use Rattle.cache_key.specs.declared.load_spec.LoadSpec.{LoadSpec}
-use Rattle.finite_maps.specs.Maps.{modify}
-use Rattle.finite_maps.specs.MapLaws.{modify_there}
-use Rattle.finite_maps.specs.SortedEntries.{all_below, len-sorted}
+use Rattle.finite_maps.specs.SortedEntries.{len-sorted}
 use Rattle.job_table.specs.declared.jobs.Job.{Job}
-use Rattle.job_table.specs.Jobs.{Jobs, JobTableValue, queued_job, run_on, marked, job_for, queued_in, after_cancel}
-use Rattle.job_table.specs.JobTableView.{jobs_of, OneOfEach}
-use Rattle.job_table.proofs.Edits.{Kept, stands, read_is, queued_live, queued_is, kept-set, kept-removed, kept-added, one-none, none-empty}
+use Rattle.job_table.specs.Jobs.{Jobs, JobTableValue, queued_job, job_for}
+use Rattle.job_table.specs.JobTableView.{jobs_of}
+use Rattle.job_table.proofs.Edits.{Kept, kept-added}
 use Rattle.job_table.proofs.jobs.JobTable.add.Goals as goal
 
 fits : (c : goal.After-self-1) → length c.self.inside.jobs.items < c.self.inside.room

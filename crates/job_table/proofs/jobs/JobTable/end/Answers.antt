@@ -1,18 +1,12 @@
-use Rattle.std.proofs.Common.{◌≡◌, ℕ, ◌+◌, ◌<◌, ◌≤◌, ◌++◌, [], ◌∷◌, true, false, cond, List, length, get_or, Some, None, refl, ap, sym, subst, ◌∙◌, arith}
-use Rattle.std.specs.Prelude.{T, slice_get, slice_set, IsSome}
+use Rattle.std.proofs.Common.{◌≡◌, ℕ, Some, ap, sym, ◌∙◌, arith}
+use Rattle.std.specs.Prelude.{slice_get}
 use Rattle.std.specs.Option.{option_map}
-use Rattle.std.specs.Ordering.{nat_cmp}
-use Rattle.std.specs.FinMap.{get, len, insert, remove, from_sorted, is_sorted, nat_cmp-IsAntisymmetric}
-use Rattle.std.proofs.lemmas.Cmp.{nat_cmp_total}
-use Rattle.std.proofs.lemmas.Option.{slice_get_within, get_or_from_slice_get}
-use Rattle.cache_key.specs.declared.load_spec.LoadSpec.{LoadSpec}
-use Rattle.finite_maps.specs.Maps.{modify}
-use Rattle.finite_maps.specs.MapLaws.{modify_there}
-use Rattle.finite_maps.specs.SortedEntries.{all_below, len-sorted}
+use Rattle.std.specs.FinMap.{get, remove}
+use Rattle.std.proofs.lemmas.Option.{slice_get_within}
 use Rattle.job_table.specs.declared.jobs.Job.{Job}
-use Rattle.job_table.specs.Jobs.{Jobs, JobTableValue, queued_job, run_on, marked, job_for, queued_in, after_cancel}
-use Rattle.job_table.specs.JobTableView.{jobs_of, OneOfEach}
-use Rattle.job_table.proofs.Edits.{Kept, stands, read_is, queued_live, queued_is, kept-set, changed_at, marked_wanted, removed_at, one-none, none-empty}
+use Rattle.job_table.specs.Jobs.{Jobs, JobTableValue}
+use Rattle.job_table.specs.JobTableView.{jobs_of}
+use Rattle.job_table.proofs.Edits.{stands, read_is, removed_at}
 use Rattle.job_table.proofs.jobs.JobTable.end.Goals as goal
 
 pub remove-live-requires : goal.remove-live-requires

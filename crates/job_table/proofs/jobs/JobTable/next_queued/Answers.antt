@@ -1,4 +1,4 @@
-use Rattle.std.proofs.Common.{◌≡◌, ℕ, ap, sym, ◌∙◌}
+use Rattle.std.proofs.Common.{ap, sym, ◌∙◌}
 use Rattle.job_table.specs.Jobs.{JobTableValue, next_queued}
 use Rattle.job_table.specs.inside.Entries.{next_among}
 use Rattle.job_table.proofs.Looking.{next_queued-is, next_queued-none, next-sorted}
