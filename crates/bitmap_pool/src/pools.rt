@@ -42,6 +42,13 @@ impl Pool {
         })
     }
 
+    /// The most that its bitmaps may have together, in bytes.
+    pub fn maximum(&self) -> u64
+        ensures { result ≡ self.now.maximum }
+    {
+        self.maximum
+    }
+
     /// Keeps a bitmap, unless it is larger than the maximum. It is added last to its group; a new group stands at the tail,
     /// and a present one does not move. Then what does not fit goes: of the tail group the bitmap that was added last.
     pub fn put(&mut self, bitmap: Bitmap)

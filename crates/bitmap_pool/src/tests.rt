@@ -53,6 +53,7 @@ fn gives_the_least_that_is_large_enough(rt: HostRuntime) -> Result<(), Fail> {
     assert_eq!(rt; pool.size(), 400);
     assert_eq!(rt; pool.count(), 1);
     pool.set_max(399);
+    assert_eq!(rt; pool.maximum(), 399);
     assert_eq!(rt; pool.size(), 0);
     pool.clear();
     assert_eq!(rt; pool.count(), 0);

@@ -53,6 +53,13 @@ impl Cache {
         })
     }
 
+    /// The most that its sizes may be together, in bytes.
+    pub fn maximum(&self) -> u64
+        ensures { result ≡ self.now.maximum }
+    {
+        self.maximum
+    }
+
     /// Whether a size is not to be put: it is at least the maximum.
     pub fn too_large(&self, size: u64) -> bool
         ensures { result ≡ is_too_large self.now.maximum size }

@@ -32,6 +32,7 @@ fn gives_up_the_eldest(rt: HostRuntime) -> Result<(), Fail> {
     assert_eq!(rt; cache.trim(100), None);
     assert_eq!(rt; cache.trim(99), Some(3));
     assert_eq!(rt; cache.trim(0), None);
+    assert_eq!(rt; cache.maximum(), 400);
     cache.set_max(4);
     assert!(rt; cache.too_large(4));
     Ok(())
