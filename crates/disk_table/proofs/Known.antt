@@ -1,18 +1,17 @@
 -- Each key under edit has an entry, after each call.
-use Rattle.std.proofs.Common.{◌≡◌, ◌≢◌, ℕ, ◌<◌, arith, Bool, true, false, cond, List, [], ◌∷◌, zero, suc, Some, None, refl, sym, ap, subst, ◌∙◌, inl, inr}
-use Rattle.std.specs.Prelude.{set, slice_get, get_or, ◌⊎◌, is_some, IsSome, not, ◌&&◌, ◌||◌, nat_le, length, ◌≤◌}
+use Rattle.std.proofs.Common.{◌≡◌, ◌≢◌, ℕ, Bool, true, false, cond, List, [], ◌∷◌, zero, suc, Some, None, refl, sym, ap, subst, ◌∙◌, inl, inr}
+use Rattle.std.specs.Prelude.{set, slice_get, ◌⊎◌, is_some, IsSome, not, ◌&&◌, ◌||◌, nat_le, length, ◌≤◌}
 use Rattle.std.proofs.lemmas.Bool.{leb-true, leb-false}
-use Rattle.std.proofs.lemmas.List.Quantifiers.{position-Some}
-use Rattle.std.proofs.lemmas.Slice.Eq.{bytes_eq-Decides}
 use Rattle.std.specs.declared.option.Option.{Option}
 use Rattle.std.specs.List.{AllByRecursion}
 use Rattle.std.specs.Option.{option_flatten}
 use Rattle.journal_lines.specs.declared.lines.Line.{Line}
 use Rattle.journal_lines.specs.declared.lines.Line.TheVariants.{Dirty, Clean, Read, Remove}
-use Rattle.disk_table.specs.UseOrder.{Entries, value_at, without, newest, used, is_known}
-use Rattle.disk_table.specs.Table.{key_in, replayed, is_edit_of, edit_of, is_under_edit, key_of_edit, ended_with, TableValue, free_edit, is_full_for}
+use Rattle.disk_table.specs.UseOrder.{Entries, value_at, without, newest, is_known}
+use Rattle.disk_table.specs.Table.{key_in, replayed, edit_of, is_under_edit, key_of_edit, ended_with, TableValue, free_edit, is_full_for}
 use Rattle.disk_table.specs.inside.Kept.{AreKnown, AreApart}
 use Rattle.disk_table.proofs.Entries.{value_newest, known_newest, known_without, known_used, is_none_is, fits_known, fits_new, full_new}
+use Rattle.disk_table.proofs.Numbers.{edit_kept}
 use Rattle.disk_table.proofs.Apart.{none_of, closed_free, none_found}
 
 abbrev Edits : Type 0
@@ -107,16 +106,5 @@ full_free table key closed none =
 
 -- ---- the open edit of a key
 
-slice_is : {X : Type 0} (xs : List X) (n : ℕ) (d : X) → n < length xs → slice_get xs n ≡ Some (get_or xs n d)
-slice_is [] n d lt = absurd (omega (arith, lt))
-slice_is (x ∷ xs) zero d lt = refl
-slice_is (x ∷ xs) (suc n) d lt = slice_is xs n d (omega (arith, lt))
-
-edit_is : (key : List ℕ) (edit : Option (List ℕ)) → is_edit_of key edit ≡ true → edit ≡ Some key
-edit_is key None h = cc
-edit_is key (Some k) h = ap (λ x. Some x) (sym ((bytes_eq-Decides key k).0 h))
-
 pub edit_known : (es : Entries (Option ℕ)) (edits : Edits) (key : List ℕ) (n : ℕ) → AreKnown es edits → edit_of key edits ≡ Some n → IsSome (value_at key es)
-edit_known es edits key n known open' =
-    let found = position-Some (is_edit_of key) edits n None open' in
-    known key n (slice_is edits n None found.0 ∙ ap (λ x. Some x) (edit_is key (get_or edits n None) found.1))
+edit_known es edits key n known open' = known key n (edit_kept key edits n open')

@@ -1,5 +1,5 @@
 -- Entries as the hash map lists them, the most recent first.
-use Rattle.std.proofs.Common.{◌≡◌, ◌≢◌, ℕ, ◌+◌, ◌-◌, ◌≤◌, ◌<◌, Bool, true, false, cond, List, [], ◌∷◌, ◌++◌, length, take, Some, None, refl, sym, ap, subst, ◌∙◌, arith, append-nil, zero, suc}
+use Rattle.std.proofs.Common.{◌≡◌, ◌≢◌, ℕ, ◌+◌, ◌-◌, ◌≤◌, ◌<◌, true, false, cond, List, [], ◌∷◌, ◌++◌, length, take, Some, None, refl, sym, ap, subst, ◌∙◌, arith, append-nil, zero, suc}
 use Rattle.std.specs.Prelude.{reverse, IsSome, unwrap_or, ◌^◌, Result, Ok, Err, OnOk, OnErr, IsOk}
 use Rattle.std.specs.declared.option.Option.{Option}
 use Rattle.std.specs.List.{AllByRecursion}
@@ -7,7 +7,7 @@ use Rattle.std.specs.Map.{lookup, lookup_entry, remove_entry}
 use Rattle.std.specs.Option.{option_flatten}
 use Rattle.std.specs.Str.{bytes_eq}
 use Rattle.std.proofs.lemmas.Slice.Eq.{bytes_eq-Decides}
-use Rattle.lru.specs.LruCache.{LruCache, lru_cache, promoted, put_entries}
+use Rattle.lru.specs.LruCache.{LruCache, promoted, put_entries}
 use Rattle.disk_table.specs.UseOrder.{Entries, without, value_at, newest, renewed, used, IsOnce, IsShort, size_of}
 use Rattle.disk_table.specs.inside.Kept.{IsOrder, length_at}
 use Rattle.disk_table.proofs.Entries.{reverse_cons, all_back, once_split, none_without, apart_none, length_without, length_without_known, found_has, length_newest, once_without, once_newest, all_without, all_newest, size_without, size_newest, size_bound, short_is}

@@ -1,5 +1,5 @@
 -- What each call of the hash map leaves of an order.
-use Rattle.std.proofs.Common.{◌≡◌, ◌<◌, ℕ, ◌+◌, ◌-◌, ◌≤◌, sym, ap, ◌∙◌, subst, arith, List, length, unwrap_or, Some, None}
+use Rattle.std.proofs.Common.{◌≡◌, ◌<◌, ℕ, ◌+◌, ◌-◌, ◌≤◌, sym, ap, ◌∙◌, subst, arith, List, length, unwrap_or, None}
 use Rattle.std.specs.Prelude.{reverse, IsSome, Result, OnOk, IsOk}
 use Rattle.std.specs.declared.option.Option.{Option}
 use Rattle.std.specs.Map.{lookup, remove_entry}
@@ -7,7 +7,7 @@ use Rattle.std.specs.Option.{option_flatten}
 use Rattle.std.specs.Str.{bytes_eq}
 use Rattle.std.proofs.lemmas.List.{length-reverse}
 use Rattle.lru.specs.LruCache.{LruCache, lru_cache, promoted, put_entries}
-use Rattle.disk_table.specs.UseOrder.{Entries, value_at, without, newest, used, IsShort}
+use Rattle.disk_table.specs.UseOrder.{value_at, without, newest, used, IsShort}
 use Rattle.disk_table.specs.inside.Kept.{length_at, IsOrder}
 use Rattle.disk_table.proofs.Entries.{known_room, none_without}
 use Rattle.disk_table.proofs.Listed.{at_key, put_known, put_new, taken_out, promoted_is, on_ok, order_newest, order_without, order_used}

@@ -1,3 +1,4 @@
 pub mod Table
+pub mod Worked
 pub mod UseOrder
 pub mod inside

@@ -39,7 +39,9 @@ replayed es (Remove key) = without key es
 -- the entries that the lines leave, or none where one of them would make more than 16,400 keys
 abbrev pub fold_from : Entries (Option ℕ) → List Line → Option (Entries (Option ℕ))
 fold_from es [] = Some es
-fold_from es (line ∷ lines) = if nat_le (length (replayed es line)) 16400 then fold_from (replayed es line) lines else None
+fold_from es (line ∷ lines) =
+    let next = replayed es line in
+    if nat_le (length next) 16400 then fold_from next lines else None
 
 abbrev pub fold : List Line → Option (Entries (Option ℕ))
 fold lines = fold_from [] lines
@@ -52,7 +54,10 @@ abbrev pub has_room_for : Line → TableValue → Bool
 has_room_for line table = nat_le (length (replayed table.entries line)) 16400
 
 abbrev pub after_line : Line → TableValue → TableValue
-after_line line table = record table { entries = replayed table.entries line; lines = counted table.lines }
+after_line line table = record table {
+  entries = replayed table.entries line;
+  lines = counted table.lines;
+}
 
 -- ---- edits
 
@@ -78,7 +83,10 @@ key_of_edit number edits = option_flatten (slice_get edits number)
 
 -- the key is not under edit, and no edit is free or the key is new and there are 16,400
 abbrev pub is_full_for : List ℕ → TableValue → Bool
-is_full_for key table = not (is_under_edit key table.edits) && (not (is_some (free_edit table.edits)) || not (is_known key table.entries) && nat_le 16400 (length table.entries))
+is_full_for key table =
+    not (is_under_edit key table.edits)
+    && (not (is_some (free_edit table.edits))
+    || not (is_known key table.entries) && nat_le 16400 (length table.entries))
 
 -- the length of the key's readable value
 abbrev pub clean_length : List ℕ → Entries (Option ℕ) → Option ℕ
@@ -86,7 +94,11 @@ clean_length key es = option_flatten (value_at key es)
 
 -- an edit is begun: its key is the most recent, and what was readable stays so
 abbrev pub opened : List ℕ → ℕ → TableValue → TableValue
-opened key number table = record { entries = newest key (clean_length key table.entries) table.entries; edits = set table.edits number (Some key); lines = counted table.lines }
+opened key number table = record {
+  entries = newest key (clean_length key table.entries) table.entries;
+  edits = set table.edits number (Some key);
+  lines = counted table.lines;
+}
 
 -- the entries after an edit: the key is clean with this length, or it is gone
 abbrev pub ended_with : List ℕ → Option ℕ → Entries (Option ℕ) → Entries (Option ℕ)
@@ -94,16 +106,26 @@ ended_with key None es = without key es
 ended_with key (Some length) es = newest key (Some length) es
 
 abbrev pub closed : List ℕ → ℕ → Option ℕ → TableValue → TableValue
-closed key number length table = record { entries = ended_with key length table.entries; edits = set table.edits number None; lines = counted table.lines }
+closed key number length table = record {
+  entries = ended_with key length table.entries;
+  edits = set table.edits number None;
+  lines = counted table.lines;
+}
 
 -- ---- the other calls
 
 -- a line is written for a known key alone
 abbrev pub touched : List ℕ → TableValue → TableValue
-touched key table = if is_known key table.entries then record table { entries = used key table.entries; lines = counted table.lines } else table
+touched key table =
+    if is_known key table.entries
+    then record table { entries = used key table.entries; lines = counted table.lines }
+    else table
 
 abbrev pub forgotten : List ℕ → TableValue → TableValue
-forgotten key table = if is_known key table.entries then record table { entries = without key table.entries; lines = counted table.lines } else table
+forgotten key table =
+    if is_known key table.entries
+    then record table { entries = without key table.entries; lines = counted table.lines }
+    else table
 
 -- whether an entry has to go: the lengths are together above the maximum, or there are more than 16,384 keys
 abbrev pub is_over : ℕ → Entries (Option ℕ) → Bool
@@ -112,13 +134,16 @@ is_over maximum es = nat_lt maximum (size_of es) || nat_lt 16384 (length es)
 -- the eldest key that is not under edit
 abbrev pub eldest_closed : List (Option (List ℕ)) → List (List ℕ) → Option (List ℕ)
 eldest_closed edits [] = None
-eldest_closed edits (key ∷ keys) = if is_under_edit key edits then eldest_closed edits keys else Some key
+eldest_closed edits (key ∷ keys) =
+    if is_under_edit key edits then eldest_closed edits keys else Some key
 
 abbrev pub keys_in : Entries (Option ℕ) → List (List ℕ)
 keys_in es = map (λ e. e.0) es
 
 abbrev pub eldest_over : ℕ → TableValue → Option (List ℕ)
-eldest_over maximum table = if is_over maximum table.entries then eldest_closed table.edits (keys_in table.entries) else None
+eldest_over maximum table =
+    if is_over maximum table.entries then eldest_closed table.edits (keys_in table.entries)
+    else None
 
 -- the lines that a rebuild would save
 abbrev pub redundant : TableValue → ℕ

@@ -92,7 +92,8 @@ impl Edits {
     pub fn close(&mut self, number: u64)
         requires { number < 16 }
         ensures edits { self.new ≡ set self.old number None }
-        ensures free { (key : List ℕ) → key_of_edit number self.old ≡ Some key → is_under_edit key self.new ≡ false }
+        ensures free { (key : List ℕ) → key_of_edit number self.old ≡ Some key
+            → is_under_edit key self.new ≡ false }
     {
         self.keys[number as usize] = None;
     }

@@ -117,11 +117,14 @@ impl UseOrder {
     pub fn put(&mut self, key: &Key, clean: Option<u64>) -> Result<bool, NoMemory>
         requires short { IsShort clean }
         ensures few { length self.old ≤ 16400 }
-        ensures room { IfOk result (λ put. put ≡ nat_le (length (newest key.now clean self.old)) 16400) }
-        ensures order { IfOk result (λ put. self.new ≡ (if put then newest key.now clean self.old else self.old)) }
+        ensures room { IfOk result (λ put.
+            put ≡ nat_le (length (newest key.now clean self.old)) 16400) }
+        ensures order { IfOk result (λ put.
+            self.new ≡ (if put then newest key.now clean self.old else self.old)) }
         ensures err { OnErr result (self.new ≡ self.old) }
         ensures memory { OnErr result (is_known key.now self.old ≡ false) }
-        ensures room_first { OnErr result (nat_le (length (newest key.now clean self.old)) 16400 ≡ true) }
+        ensures room_first { OnErr result
+            (nat_le (length (newest key.now clean self.old)) 16400 ≡ true) }
     {
         let count = self.len();
         if self.find(key).is_some() {
@@ -139,7 +142,8 @@ impl UseOrder {
     pub fn replay(&mut self, line: &Line) -> Result<bool, NoMemory>
         requires short { HasShortLengths line.now }
         ensures room { IfOk result (λ done. done ≡ nat_le (length (replayed self.old line.now)) 16400) }
-        ensures order { IfOk result (λ done. self.new ≡ (if done then replayed self.old line.now else self.old)) }
+        ensures order { IfOk result (λ done.
+            self.new ≡ (if done then replayed self.old line.now else self.old)) }
         ensures err { OnErr result (self.new ≡ self.old) }
         ensures memory { OnErr result (is_known (key_in line.now) self.old ≡ false) }
         ensures room_first { OnErr result (nat_le (length (replayed self.old line.now)) 16400 ≡ true) }

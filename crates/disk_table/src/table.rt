@@ -82,7 +82,8 @@ impl DiskTable {
         requires short { HasShortLengths line.now }
         requires closed { is_under_edit (key_in line.now) self.old.edits ≡ false }
         ensures applied { IfOk result (λ applied. applied ≡ has_room_for line.now self.old) }
-        ensures table { IfOk result (λ applied. self.new ≡ (if applied then after_line line.now self.old else self.old)) }
+        ensures table { IfOk result (λ applied.
+            self.new ≡ (if applied then after_line line.now self.old else self.old)) }
         ensures err { OnErr result (self.new ≡ self.old) }
         ensures memory { OnErr result (is_known (key_in line.now) self.old.entries ≡ false) }
         ensures room_first { OnErr result (has_room_for line.now self.old ≡ true) }
@@ -105,6 +106,7 @@ impl DiskTable {
     /// The open edit of the key, by its number from 0 to 15.
     pub fn edit_of(&self, key: &Key) -> Option<u64>
         ensures number { result ≡ edit_of key.now self.now.edits }
+        ensures key { IfSome result (λ edit. key_of_edit edit self.now.edits ≡ Some key.now) }
         ensures within { IfSome result (λ edit. edit < 16) }
         ensures known { IsSome result → is_known key.now self.now.entries ≡ true }
     {
@@ -112,13 +114,15 @@ impl DiskTable {
     }
 
     /// Begins an edit of the key, and answers the least number that no open edit has. The key is the most recent and keeps
-    /// its readable length; a new one has none.
+    /// its readable length; a new one has none. Memory is wanted at a new key alone.
     pub fn open_edit(&mut self, key: &Key) -> Result<u64, EditRefused>
         ensures table { IfOk result (λ edit. self.new ≡ opened key.now edit self.old) }
         ensures number { IfOk result (λ edit. free_edit self.old.edits ≡ Some edit) }
         ensures within { IfOk result (λ edit. edit < 16) }
-        ensures busy { (edit : ℕ) → IsErrOf result (EditRefused.Busy edit) ↔ (edit_of key.now self.old.edits ≡ Some edit) }
+        ensures busy { (edit : ℕ) → IsErrOf result (EditRefused.Busy edit) ↔
+            (edit_of key.now self.old.edits ≡ Some edit) }
         ensures too_many { IsErrOf result EditRefused.TooMany ↔ (is_full_for key.now self.old ≡ true) }
+        ensures memory { IsErrOf result EditRefused.Memory → is_known key.now self.old.entries ≡ false }
         ensures err { OnErr result (self.new ≡ self.old) }
     {
         if let Some(edit) = self.edits.of(key) {
@@ -140,8 +144,10 @@ impl DiskTable {
     pub fn close_edit(&mut self, edit: u64, length: Option<u64>)
         requires open { IsSome (key_of_edit edit self.old.edits) }
         requires short { IsShort length }
-        ensures table { (key : List ℕ) → key_of_edit edit self.old.edits ≡ Some key → self.new ≡ closed key edit length self.old }
-        ensures free { (key : List ℕ) → key_of_edit edit self.old.edits ≡ Some key → is_under_edit key self.new.edits ≡ false }
+        ensures table { (key : List ℕ) → key_of_edit edit self.old.edits ≡ Some key
+            → self.new ≡ closed key edit length self.old }
+        ensures free { (key : List ℕ) → key_of_edit edit self.old.edits ≡ Some key
+            → is_under_edit key self.new.edits ≡ false }
     {
         let Some(key) = self.edits.key_of(edit) else {
             return;
@@ -195,7 +201,8 @@ impl DiskTable {
         self.eldest_closed()
     }
 
-    /// Whether a rebuild of the journal is due: it has at least 2,000 redundant lines, and at least as many as there are keys.
+    /// Whether a rebuild of the journal is due: it has at least 2,000 redundant lines, and at least as many as there are
+    /// keys.
     pub fn due(&self) -> bool
         ensures { result ≡ is_due self.now }
     {

@@ -33,4 +33,5 @@ length_at key es = unwrap_or (option_flatten (value_at key es)) 0
 
 -- each key under edit has an entry
 abbrev pub AreKnown : Entries (Option ℕ) → List (Option (List ℕ)) → Type 0
-AreKnown es edits = (key : List ℕ) (number : ℕ) → slice_get edits number ≡ Some (Some key) → IsSome (value_at key es)
+AreKnown es edits = (key : List ℕ) (number : ℕ) → slice_get edits number ≡ Some (Some key)
+    → IsSome (value_at key es)

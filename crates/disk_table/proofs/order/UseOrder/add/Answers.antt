@@ -1,9 +1,8 @@
-use Rattle.std.proofs.Common.{◌≡◌, ◌<◌, ℕ, ◌+◌, ◌-◌, ◌≤◌, sym, ap, ◌∙◌, subst, arith, List, length, unwrap_or, Some}
-use Rattle.std.specs.Prelude.{reverse, IsSome, None, IsOk, refl}
-use Rattle.disk_table.specs.UseOrder.{value_at, without, newest, used, size_of}
-use Rattle.disk_table.specs.inside.Kept.{length_at}
-use Rattle.disk_table.proofs.Listed.{on_ok, length_within, size_small}
-use Rattle.disk_table.proofs.Steps.{after_put, order_put, after_add, order_add, after_pop, order_pop, after_promote, order_promote}
+use Rattle.std.proofs.Common.{◌<◌, sym, ap, ◌∙◌, subst, arith, length}
+use Rattle.std.specs.Prelude.{IsOk, refl}
+use Rattle.disk_table.specs.UseOrder.{value_at, newest}
+use Rattle.disk_table.proofs.Listed.{on_ok, size_small}
+use Rattle.disk_table.proofs.Steps.{after_add, order_add}
 use Rattle.disk_table.proofs.order.UseOrder.add.Goals as goal
 
 pub overflow_add-self : goal.overflow_add-self

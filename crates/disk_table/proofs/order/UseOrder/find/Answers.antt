@@ -1,4 +1,4 @@
-use Rattle.std.proofs.Common.{◌≡◌, sym, ap, ◌∙◌}
+use Rattle.std.proofs.Common.{sym, ap, ◌∙◌}
 use Rattle.disk_table.specs.UseOrder.{value_at}
 use Rattle.disk_table.proofs.Listed.{at_key}
 use Rattle.disk_table.proofs.order.UseOrder.find.Goals as goal

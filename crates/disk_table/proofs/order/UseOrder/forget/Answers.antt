@@ -1,10 +1,9 @@
-use Rattle.std.proofs.Common.{◌≡◌, ◌<◌, ℕ, ◌+◌, ◌-◌, ◌≤◌, sym, ap, ◌∙◌, subst, arith, List, length, unwrap_or, Some}
-use Rattle.std.specs.Prelude.{reverse, IsSome, None}
+use Rattle.std.proofs.Common.{sym, ap, ◌∙◌, arith}
 use Rattle.std.proofs.lemmas.List.{length-reverse}
-use Rattle.disk_table.specs.UseOrder.{value_at, without, newest, used, size_of}
+use Rattle.disk_table.specs.UseOrder.{without}
 use Rattle.disk_table.specs.inside.Kept.{length_at}
-use Rattle.disk_table.proofs.Listed.{length_within, size_small}
-use Rattle.disk_table.proofs.Steps.{after_put, order_put, after_add, order_add, after_pop, order_pop, after_promote, order_promote}
+use Rattle.disk_table.proofs.Listed.{length_within}
+use Rattle.disk_table.proofs.Steps.{after_pop, order_pop}
 use Rattle.disk_table.proofs.order.UseOrder.forget.Goals as goal
 
 pub overflow_sub-self : goal.overflow_sub-self

@@ -1,5 +1,5 @@
-use Rattle.std.proofs.Common.{◌≡◌, ◌≤◌, ◌<◌, true, false, sym, ap, ◌∙◌, subst, arith, length}
-use Rattle.std.specs.Prelude.{IsSome, None}
+use Rattle.std.proofs.Common.{sym, ◌∙◌, subst, arith}
+use Rattle.std.specs.Prelude.{IsSome}
 use Rattle.disk_table.proofs.Entries.{is_some_is, is_none_is, fits_known, fits_new, full_new}
 use Rattle.disk_table.proofs.Listed.{on_err}
 use Rattle.disk_table.proofs.order.UseOrder.put.Goals as goal

@@ -1,10 +1,7 @@
-use Rattle.std.proofs.Common.{◌≡◌, List, ℕ, sym, ap, ◌∙◌, subst, Some, false}
-use Rattle.std.specs.Prelude.{IsSome}
-use Rattle.disk_table.specs.UseOrder.{value_at}
-use Rattle.disk_table.specs.Table.{TableValue, is_under_edit, key_in, replayed, key_of_edit}
+use Rattle.std.proofs.Common.{◌≡◌, sym, subst, false}
+use Rattle.disk_table.specs.Table.{TableValue, is_under_edit, key_in, replayed}
 use Rattle.disk_table.specs.inside.Kept.{AreKnown}
-use Rattle.disk_table.proofs.Entries.{known_used}
-use Rattle.disk_table.proofs.Known.{known_replayed, known_if, known_opened, known_closed, free_closed, known_without_key}
+use Rattle.disk_table.proofs.Known.{known_replayed, known_if}
 use Rattle.disk_table.proofs.table.DiskTable.apply.Goals as goal
 
 pub invariant_of-self-2 : goal.invariant_of-self-2

@@ -1,12 +1,12 @@
 use Rattle.std.proofs.Common.{◌≡◌, List, ℕ, length, sym, ap, ◌∙◌, subst, Some, None, true, false, not, Bool, refl, cond, ◌≤◌}
 use Rattle.std.specs.declared.option.Option.{Option}
-use Rattle.std.specs.Prelude.{IsSome, nat_le, Result, Ok, Err, IsErrOf, IsErrAnd}
-use Rattle.disk_table.specs.UseOrder.{value_at, newest, without}
-use Rattle.disk_table.specs.Table.{TableValue, is_under_edit, key_in, replayed, key_of_edit, edit_of, free_edit, is_full_for, ended_with}
+use Rattle.std.specs.Prelude.{nat_le, Result, Ok, Err, IsErrOf, IsErrAnd}
+use Rattle.disk_table.specs.UseOrder.{newest}
+use Rattle.disk_table.specs.Table.{TableValue, edit_of, free_edit, is_full_for}
 use Rattle.disk_table.specs.declared.table.EditRefused.{EditRefused}
-use Rattle.disk_table.specs.declared.table.EditRefused.TheVariants.{Busy, TooMany, Memory}
+use Rattle.disk_table.specs.declared.table.EditRefused.TheVariants.{TooMany, Memory}
 use Rattle.disk_table.specs.inside.Kept.{AreKnown}
-use Rattle.disk_table.proofs.Known.{known_replayed, known_if, known_opened, known_closed, known_at, known_without_key, full_is, full_free}
+use Rattle.disk_table.proofs.Known.{known_opened, full_is}
 use Rattle.disk_table.proofs.table.DiskTable.open_edit.Goals as goal
 
 -- want of memory is no other refusal
