@@ -1,26 +1,22 @@
 -- The totals add up.
-use Rattle.std.proofs.Common.{◌≡◌, ◌≢◌, ℕ, ◌+◌, ◌<◌, ◌≤◌, Bool, true, false, cond, eqb, ltb, List, [], ◌∷◌, ◌++◌, length, Some, None, refl, ap, sym, ◌∙◌, inl, inr, arith, true≢false}
+use Rattle.std.proofs.Common.{◌≡◌, ◌≢◌, ℕ, ◌+◌, ◌<◌, ◌≤◌, Bool, true, false, cond, eqb, ltb, List, [], ◌∷◌, ◌++◌, length, refl, ap, ◌∙◌, inl, inr, arith}
 use Rattle.std.specs.Prelude.{◌&&◌, not, flat_map, zero, suc}
-use Rattle.std.specs.Ordering.{nat_cmp, eq_by_cmp}
-use Rattle.std.specs.Option.{is_some}
-use Rattle.std.specs.Cmp.{nat_cmp_total}
-use Rattle.std.specs.FinMap.{get, remove, entries, contains_key, nat_cmp-IsAntisymmetric}
-use Rattle.std.specs.FinMap.Entries.{where_key}
+use Rattle.std.specs.FinMap.{entries}
 use Rattle.std.proofs.lemmas.List.{length-append, length-map}
-use Rattle.std.proofs.lemmas.Bool.{eqb-true, eqb-false, eq-eqb, ne_eqb}
+use Rattle.std.proofs.lemmas.Bool.{eqb-true, eqb-false}
 use Rattle.finite_maps.specs.Maps.{sum_over, total}
 use Rattle.bitmap_pool.specs.Pool.{Group, pooled, pool_count}
 use Rattle.load_table.specs.Loads.{holders}
-use Rattle.engine_world.specs.World.{Job, Resource, Resources, World}
+use Rattle.engine_world.specs.World.{Job, Resource, World}
 use Rattle.engine_world.specs.Places.{one_if, occurrences, lent_numbers, is_held, times_out, whereabouts, times_kept}
 use Rattle.engine_world.specs.Moves.{without}
 use Rattle.engine_world.specs.Balance.{out_count, held_count, totals, Balance}
 use Rattle.engine_world.specs.Knowledge.{Knowledge}
 use Rattle.engine_world.specs.Sound.{Sound}
-use Rattle.finite_maps.specs.MapLaws.{key_itself, entries-remove, total-remove, remove_absent}
 use Rattle.engine_world.proofs.Occurs.{occurrences-append, without_same, without_other, one_if_same}
 use Rattle.engine_world.proofs.Counting.{CountsAdd}
 use Rattle.engine_world.proofs.Jobs.{number_cases}
+use Rattle.engine_world.proofs.KeySums.{stands_at, stands_once}
 
 -- ---- numbers below another, none of them twice, are no more than it
 
@@ -34,7 +30,7 @@ no_numbers : (xs : List ℕ) → ((b : ℕ) → occurrences b xs ≡ 0) → leng
 no_numbers [] none = refl
 no_numbers (x ∷ xs) none = absurd (omega (arith, none x, one_if_same x))
 
-at_most : (n : ℕ) (xs : List ℕ) → ((b : ℕ) → occurrences b xs ≤ 1) → ((b : ℕ) → 0 < occurrences b xs → b < n) → length xs ≤ n
+pub at_most : (n : ℕ) (xs : List ℕ) → ((b : ℕ) → occurrences b xs ≤ 1) → ((b : ℕ) → 0 < occurrences b xs → b < n) → length xs ≤ n
 at_most zero xs once below =
     let none : length xs ≡ 0 = no_numbers xs (λ b. elim (eqb (occurrences b xs) 0) as (λ t. eqb (occurrences b xs) 0 ≡ t → occurrences b xs ≡ 0) [
       | true ↦ λ e. eqb-true _ _ e
@@ -80,15 +76,12 @@ module _ (held : ℕ → Bool) where
   held_list [] = []
   held_list (e ∷ es) = cond (held e.0) (e.0 ∷ held_list es) (held_list es)
 
-  abbrev stands_held : ℕ → ℕ → Resource → ℕ
-  stands_held b k resource = one_if (held k && eqb k b)
-
-  held_stands : (b : ℕ) (es : List (ℕ × Resource)) → occurrences b (held_list es) ≡ sum_over (stands_held b) es
+  held_stands : (b : ℕ) (es : List (ℕ × Resource)) → occurrences b (held_list es) ≡ sum_over (stands_at held b) es
   unfolding held_list
   held_stands b [] = refl
-  held_stands b (e ∷ es) = elim (held e.0) as (λ t. occurrences b (cond t (e.0 ∷ held_list es) (held_list es)) ≡ one_if (t && eqb e.0 b) + sum_over (stands_held b) es) [
+  held_stands b (e ∷ es) = elim (held e.0) as (λ t. occurrences b (cond t (e.0 ∷ held_list es) (held_list es)) ≡ one_if (t && eqb e.0 b) + sum_over (stands_at held b) es) [
     | true ↦ ap (λ n. one_if (eqb e.0 b) + n) (held_stands b es)
-    | false ↦ let rest : occurrences b (held_list es) ≡ sum_over (stands_held b) es = held_stands b es in omega (arith, rest)
+    | false ↦ let rest : occurrences b (held_list es) ≡ sum_over (stands_at held b) es = held_stands b es in omega (arith, rest)
   ]
 
   held_length : (es : List (ℕ × Resource)) → length (held_list es) ≡ sum_over (λ k (resource : Resource). one_if (held k)) es
@@ -97,32 +90,6 @@ module _ (held : ℕ → Bool) where
   held_length (e ∷ es) =
       let rest : length (held_list es) ≡ sum_over (λ k (resource : Resource). one_if (held k)) es = held_length es in
       elim (held e.0) as (λ t. length (cond t (e.0 ∷ held_list es) (held_list es)) ≡ one_if t + sum_over (λ k (resource : Resource). one_if (held k)) es) [ true ↦ omega (arith, rest) | false ↦ omega (arith, rest) ]
-
-  -- no other entry stands at b
-  none_other : (b : ℕ) (es : List (ℕ × Resource)) → sum_over (stands_held b) (where_key nat_cmp (λ x. not (eq_by_cmp nat_cmp b x)) es) ≡ 0
-  none_other b [] = refl
-  none_other b (e ∷ es) =
-      let rest : sum_over (stands_held b) (where_key nat_cmp (λ x. not (eq_by_cmp nat_cmp b x)) es) ≡ 0 = none_other b es in
-      elim (eq_by_cmp nat_cmp b e.0) as (λ t. eq_by_cmp nat_cmp b e.0 ≡ t → sum_over (stands_held b) (cond (not t) (e ∷ where_key nat_cmp (λ x. not (eq_by_cmp nat_cmp b x)) es) (where_key nat_cmp (λ x. not (eq_by_cmp nat_cmp b x)) es)) ≡ 0) [
-        | true ↦ λ is. rest
-        | false ↦ λ is.
-            let ne : e.0 ≢ b = λ same. true≢false (sym (key_itself nat_cmp_total nat_cmp-IsAntisymmetric b) ∙ ap (eq_by_cmp nat_cmp b) (sym same) ∙ is) in
-            let no : eqb e.0 b ≡ false = ne_eqb e.0 b ne in
-            let zero_here : one_if (held e.0 && eqb e.0 b) ≡ 0 = ap (λ t. one_if (held e.0 && t)) no ∙ elim (held e.0) as (λ t. one_if (t && false) ≡ 0) [ true ↦ refl | false ↦ refl ] in
-            omega (arith, zero_here, rest)
-      ] refl
-
-  held_once : (b : ℕ) (resources : Resources) → total (stands_held b) resources ≡ one_if (contains_key resources b && held b)
-  unfolding total
-  held_once b resources =
-      let others : total (stands_held b) (remove resources b) ≡ 0 = ap (sum_over (stands_held b)) (entries-remove nat_cmp_total nat_cmp-IsAntisymmetric resources b) ∙ none_other b (entries resources) in
-      elim (get resources b) as (λ o. get resources b ≡ o → total (stands_held b) resources ≡ one_if (is_some o && held b)) [
-        | None ↦ λ e. ap (total (stands_held b)) (sym (remove_absent nat_cmp_total nat_cmp-IsAntisymmetric resources b e)) ∙ others
-        | Some resource ↦ λ e.
-            let all : total (stands_held b) resources ≡ one_if (held b && eqb b b) + total (stands_held b) (remove resources b) = total-remove nat_cmp_total nat_cmp-IsAntisymmetric (stands_held b) resources b resource e in
-            let here : one_if (held b && eqb b b) ≡ one_if (held b) = ap (λ t. one_if (held b && t)) (eq-eqb b b refl) ∙ elim (held b) as (λ t. one_if (t && true) ≡ one_if t) [ true ↦ refl | false ↦ refl ] in
-            omega (arith, all, here, others)
-      ] refl
 
 -- ---- pooled
 
@@ -144,7 +111,7 @@ balance_law w known s sums =
     let a2 : occurrences b (helds ++ (w.cached ++ pooled w.pool)) ≡ occurrences b helds + occurrences b (w.cached ++ pooled w.pool) = occurrences-append b helds (w.cached ++ pooled w.pool) in
     let a3 : occurrences b (w.cached ++ pooled w.pool) ≡ occurrences b w.cached + occurrences b (pooled w.pool) = occurrences-append b w.cached (pooled w.pool) in
     let o : occurrences b outs ≡ times_out w.jobs b = out_stands b (entries w.jobs) in
-    let h : occurrences b helds ≡ one_if (is_held w.loads w.resources b) = held_stands held b (entries w.resources) ∙ held_once held b w.resources in
+    let h : occurrences b helds ≡ one_if (is_held w.loads w.resources b) = held_stands held b (entries w.resources) ∙ stands_once held b w.resources in
     omega (arith, a1, a2, a3, o, h) in
     let few : length all ≤ w.next = at_most w.next all (λ b. omega (arith, stands b, s.places.once b)) (λ b some. s.places.below b (omega (arith, some, stands b))) in
     let l1 : length all ≡ length outs + length (helds ++ (w.cached ++ pooled w.pool)) = length-append outs (helds ++ (w.cached ++ pooled w.pool)) in

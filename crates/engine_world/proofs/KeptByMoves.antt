@@ -14,7 +14,14 @@ use Rattle.engine_world.specs.World.{LoadState, Job, Jobs, Resource, World}
 use Rattle.engine_world.specs.Moves.{cached_of, next_queued, size_of, pool_resource, to_pool, all_to_pool, shrink_cache, cached_to_pool, cache_first, to_cache, retire, let_go, cancel_job, lend, take_back, trim_to}
 use Rattle.engine_world.specs.Steps.{released, start_job, start_next, next_job, trim}
 
--- It stays true of a world of which one of these parts changes.
+-- It stays true of a world of which one of these parts changes,
+pub record OutlastsEvictions (P : World → Type 0) : Type 0 where
+  pub resources : (v : World) (r : ℕ) → P v → P (record v { resources = remove v.resources r })
+  pub active : (v : World) (active : Numbers) → P v → P (record v { active = active })
+  pub cached : (v : World) (cached : List ℕ) → P v → P (record v { cached = cached })
+  pub pool : (v : World) (pool : List (Group ℕ)) → P v → P (record v { pool = pool })
+
+-- or one of these.
 pub record Outlasts (P : World → Type 0) : Type 0 where
   pub resources : (v : World) (r : ℕ) → P v → P (record v { resources = remove v.resources r })
   pub active : (v : World) (active : Numbers) → P v → P (record v { active = active })
@@ -22,7 +29,7 @@ pub record Outlasts (P : World → Type 0) : Type 0 where
   pub pool : (v : World) (pool : List (Group ℕ)) → P v → P (record v { pool = pool })
   pub jobs : (v : World) (jobs : Jobs) → P v → P (record v { jobs = jobs })
 
-module _ (P : World → Type 0) (o : Outlasts P) where
+module _ (P : World → Type 0) (o : OutlastsEvictions P) where
   pool_resource-keeps : (r : ℕ) (found : Option Resource) (v : World) → P v → P (pool_resource r found v)
   pool_resource-keeps r None v h = h
   pool_resource-keeps r (Some a) v h = o.pool _ _ (o.resources v r h)
@@ -58,6 +65,22 @@ module _ (P : World → Type 0) (o : Outlasts P) where
   retire-keeps r None v h = h
   retire-keeps r (Some a) v h = elim a.cacheable as (λ t. P (cond t (to_cache r a v) (to_pool r v))) [ true ↦ to_cache-keeps r a v h | false ↦ to_pool-keeps r v h ]
 
+  pub let_go-evicts : (r : ℕ) (v : World) → P v → P (let_go r v)
+  let_go-evicts r v h = retire-keeps r (get v.resources r) _ (o.active v _ h)
+
+  trim_to-keeps : (memory pool : ℕ) (v : World) → P v → P (trim_to memory pool v)
+  trim_to-keeps memory pool v h = o.pool (shrink_cache memory v) _ (shrink_cache-keeps memory v h)
+
+  pub trim-evicts : (level : ℕ) (v : World) → P v → P (trim level v)
+  trim-evicts level v h = elim (leb 40 level) as (λ t. P (cond t (trim_to 0 0 v) (cond (leb 20 level || eqb level 15) (trim_to (v.limits.memory / 2) (v.limits.pool / 2) v) v))) [
+    | true ↦ trim_to-keeps 0 0 v h
+    | false ↦ elim (leb 20 level || eqb level 15) as (λ t. P (cond t (trim_to (v.limits.memory / 2) (v.limits.pool / 2) v) v)) [ true ↦ trim_to-keeps (v.limits.memory / 2) (v.limits.pool / 2) v h | false ↦ h ]
+  ]
+
+module _ (P : World → Type 0) (o : Outlasts P) where
+  evictions : OutlastsEvictions P
+  evictions = record { resources = o.resources; active = o.active; cached = o.cached; pool = o.pool }
+
   cancel_job-keeps : (j : ℕ) (found : Option Job) (v : World) → P v → P (cancel_job j found v)
   cancel_job-keeps j None v h = h
   cancel_job-keeps j (Some job) v h = elim (is_none job.seat) as (λ t. P (cond t (record v { jobs = remove v.jobs j }) (record v { jobs = insert v.jobs j (record job { cancelled = true }) }))) [
@@ -67,7 +90,7 @@ module _ (P : World → Type 0) (o : Outlasts P) where
 
   pub released-keeps : (state : LoadState) (v : World) → P v → P (released state v)
   released-keeps (Waiting j) v h = elim (eqb (waiting j v.loads) 0) as (λ t. P (cond t (cancel_job j (get v.jobs j) v) v)) [ true ↦ cancel_job-keeps j (get v.jobs j) v h | false ↦ h ]
-  released-keeps (Ready r) v h = elim (eqb (holders r v.loads) 0) as (λ t. P (cond t (let_go r v) v)) [ true ↦ retire-keeps r (get v.resources r) _ (o.active v _ h) | false ↦ h ]
+  released-keeps (Ready r) v h = elim (eqb (holders r v.loads) 0) as (λ t. P (cond t (let_go r v) v)) [ true ↦ let_go-evicts P evictions r v h | false ↦ h ]
   released-keeps (Failed cause) v h = h
 
   pub lend-keeps : (j : ℕ) (found : Option Job) (lent : Lent) (v : World) → P v → P (lend j found lent v)
@@ -89,11 +112,5 @@ module _ (P : World → Type 0) (o : Outlasts P) where
   pub next_job-keeps : (who : ℕ) (v : World) → P v → P (next_job v who).1
   next_job-keeps who v h = elim v.closed as (λ t. P (cond t (replies.Closed, v) (start_next v who (next_queued v.jobs))).1) [ true ↦ h | false ↦ start_next-keeps who (next_queued v.jobs) v h ]
 
-  trim_to-keeps : (memory pool : ℕ) (v : World) → P v → P (trim_to memory pool v)
-  trim_to-keeps memory pool v h = o.pool (shrink_cache memory v) _ (shrink_cache-keeps memory v h)
-
   pub trim-keeps : (level : ℕ) (v : World) → P v → P (trim level v)
-  trim-keeps level v h = elim (leb 40 level) as (λ t. P (cond t (trim_to 0 0 v) (cond (leb 20 level || eqb level 15) (trim_to (v.limits.memory / 2) (v.limits.pool / 2) v) v))) [
-    | true ↦ trim_to-keeps 0 0 v h
-    | false ↦ elim (leb 20 level || eqb level 15) as (λ t. P (cond t (trim_to (v.limits.memory / 2) (v.limits.pool / 2) v) v)) [ true ↦ trim_to-keeps (v.limits.memory / 2) (v.limits.pool / 2) v h | false ↦ h ]
-  ]
+  trim-keeps level v h = trim-evicts P evictions level v h

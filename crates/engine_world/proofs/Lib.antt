@@ -21,6 +21,7 @@ pub mod ReleaseEvent
 pub mod KeptByMoves
 pub mod Fixed
 pub mod Counting
+pub mod KeySums
 pub mod Balances
 pub mod Always
 pub mod Holds
@@ -28,3 +29,6 @@ pub mod LaterHolds
 pub mod OnePlaces
 pub mod Computing
 pub mod Lookups
+pub mod Limits
+pub mod LaterLimits
+pub mod RoomsFit

@@ -13,6 +13,8 @@ pub mod Steps
 pub mod Knowledge
 pub mod Permits
 pub mod Sound
+pub mod Rooms
 pub mod EngineMachine
 pub mod Laws
+pub mod RoomLaws
 pub mod Worked

@@ -1,5 +1,6 @@
 // The laws of the engine's world, each as the contract of a function that does nothing.
 ghost use Rattle.engine_world.specs.declared.events.Event.{Event};
+ghost use Rattle.engine_world.specs.RoomLaws.{KeepsLimits, OpensWithinLimits, NeedsNoMoreRoom, HistoriesKeepLimits};
 ghost use Rattle.engine_world.specs.Laws.{KeepsSound, KeepsOpening, KeepsHolds, ReadyShowsItsKey, HasOnePlace, OnlyMadeHasPlace, TakesFree, TakesAnother, FindsActive, FindsCached, HistoriesAreSound, HistoriesBalance, HistoriesKeepHolds};
 
 /// From a sound world, an event that its seat is permitted leaves a sound one.
@@ -51,4 +52,20 @@ pub fn each_history_is_sound<M, R>()
 /// without its owner's release of it.
 pub fn each_history_keeps_holds<M, R>()
     ensures { HistoriesKeepHolds M R }
+{}
+
+/// Counts, loads and jobs keep to their limits through each event that its seat is permitted, and do so at the beginning.
+pub fn each_event_keeps_limits()
+    ensures event { (event : Event) → KeepsLimits event }
+    ensures opening { OpensWithinLimits }
+{}
+
+/// Each world that a legal history leads to is within its limits.
+pub fn each_history_keeps_limits<M, R>()
+    ensures { HistoriesKeepLimits M R }
+{}
+
+/// A sound world within its limits needs no more room than the quotas of its seats say.
+pub fn rooms_suffice()
+    ensures { NeedsNoMoreRoom }
 {}

@@ -9,7 +9,8 @@ mod worked;
 
 pub use events::{Event, Lent, Note, NotedReply, Shape, Totals};
 pub use laws::{
-    each_bitmap_has_one_place, each_event_keeps_holds, each_event_keeps_opening,
-    each_event_keeps_sound, each_history_is_sound, each_history_keeps_holds,
-    lookups_find_the_only_one, ready_loads_show_their_keys, taken_bitmaps_were_free,
+    each_bitmap_has_one_place, each_event_keeps_holds, each_event_keeps_limits,
+    each_event_keeps_opening, each_event_keeps_sound, each_history_is_sound,
+    each_history_keeps_holds, each_history_keeps_limits, lookups_find_the_only_one,
+    ready_loads_show_their_keys, rooms_suffice, taken_bitmaps_were_free,
 };
