@@ -76,7 +76,7 @@ pub held_there : (s : Inside) (w : World) (r : ℕ) (resource : Resource) → wo
 held_there s w r resource seen is =
     held_by (get s.resources.resources r) resource (sym (get-map_values nat_cmp resource_in s.resources.resources r) ∙ ap (λ (v : World). get v.resources r) seen ∙ is)
 
-some_held : (o : Option ResourceValue) → is_some (option_map resource_in o) ≡ true → is_some o ≡ true
+pub some_held : (o : Option ResourceValue) → is_some (option_map resource_in o) ≡ true → is_some o ≡ true
 some_held None is = cc
 some_held (Some x) is = refl
 

@@ -1,2 +1,4 @@
-pub mod MovedMaps
+pub mod Activating
 pub mod Joins
+pub mod Lending
+pub mod MovedMaps

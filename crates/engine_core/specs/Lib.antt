@@ -1,4 +1,5 @@
 pub mod Conditions
+pub mod Lending
 pub mod LiveJobs
 pub mod Noted
 pub mod TablesView

@@ -1,6 +1,7 @@
 //! The engine core: the six tables joined to one state, and a step for each event.
 #![tactic(auto)]
 
+mod bitmaps;
 mod live_jobs;
 mod replies;
 mod tables;

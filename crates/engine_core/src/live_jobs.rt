@@ -4,7 +4,7 @@ ghost use Rattle.std.specs.Prelude.{◌≡◌};
 ghost use Rattle.std.specs.FinMap.{empty};
 
 use engine_world::Lent;
-use snapshots::SnapshotUpdate;
+use state_machine::SnapshotUpdate;
 use std::marker::Model;
 use std::snapshot::Snapshot;
 

@@ -44,21 +44,21 @@ pub struct LoadCounts {
 /// The engine's tables, seen as its world.
 #[derive(Drop)]
 pub struct Tables {
-    alloc: Global,
-    loads: LoadTable<Cause>,
-    jobs: JobTable,
-    live: Snapshot<NoJobs>,
-    resources: ResourceTable,
-    active: Active,
-    cache: Cache,
-    pool: Pool,
-    next: u64,
-    counts: LoadCounts,
-    begun: Vec<u64>,
-    quotas: Vec<u32>,
-    out: u64,
-    closed: bool,
-    told: Told,
+    pub(crate) alloc: Global,
+    pub(crate) loads: LoadTable<Cause>,
+    pub(crate) jobs: JobTable,
+    pub(crate) live: Snapshot<NoJobs>,
+    pub(crate) resources: ResourceTable,
+    pub(crate) active: Active,
+    pub(crate) cache: Cache,
+    pub(crate) pool: Pool,
+    pub(crate) next: u64,
+    pub(crate) counts: LoadCounts,
+    pub(crate) begun: Vec<u64>,
+    pub(crate) quotas: Vec<u32>,
+    pub(crate) out: u64,
+    pub(crate) closed: bool,
+    pub(crate) told: Told,
 }
 
 impl Model for Tables {
@@ -209,7 +209,7 @@ impl Tables {
     }
 
     // A resource that is not cached leaves its table, and its bitmap goes to the pool.
-    fn to_pool(&mut self, number: u64)
+    pub(crate) fn to_pool(&mut self, number: u64)
         requires there { IsSome (get self.old.resources number) }
         requires uncached { occurrences number self.old.cached ≡ 0 }
         ensures { self.new ≡ to_pool number self.old }
