@@ -1,4 +1,7 @@
 pub mod Activating
+pub mod Caching
 pub mod Joins
+pub mod Leaving
 pub mod Lending
 pub mod MovedMaps
+pub mod Shrinking

@@ -2,4 +2,5 @@ pub mod Conditions
 pub mod Lending
 pub mod LiveJobs
 pub mod Noted
+pub mod Releasing
 pub mod TablesView

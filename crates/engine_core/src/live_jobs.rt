@@ -47,6 +47,15 @@ pub struct Start {
     pub seat: u32,
 }
 
+/// No load waits on a job any more: a queued one goes, and a running one is cancelled.
+pub struct JobLeft;
+
+impl SnapshotUpdate<u64, NoJobs> for JobLeft {
+    ghost use Rattle.engine_core.specs.LiveJobs.{left};
+
+    ghost updated = { λ jobs j. left jobs j };
+}
+
 /// A job runs.
 pub struct JobRuns;
 
