@@ -1,16 +1,13 @@
 -- What goes to the memory cache, and what leaves it by its number.
 use Rattle.std.proofs.Common.{◌≡◌, ◌≢◌, ℕ, ◌+◌, ◌-◌, ◌<◌, ◌≤◌, Bool, true, false, cond, eqb, ltb, leb, List, [], ◌∷◌, ◌++◌, length, map, take, drop, get_or, Some, None, Option, refl, ap, sym, subst, ◌∙◌, arith, true≢false}
 use Rattle.std.specs.Prelude.{IsSome, is_some, ◌||◌, not, sum_by, filter, find}
-use Rattle.std.specs.List.{All, list_any}
+use Rattle.std.specs.List.{list_any}
 use Rattle.std.specs.Option.{option_map}
 use Rattle.std.specs.Ordering.{nat_cmp}
 use Rattle.std.specs.FinMap.{get, remove, nat_cmp-IsAntisymmetric}
 use Rattle.std.proofs.lemmas.Cmp.{nat_cmp_total}
 use Rattle.std.proofs.lemmas.Bool.{eqb-true, eq-eqb, ne_eqb, ltb-true, ltb-false}
-use Rattle.std.proofs.lemmas.List.{drop_more}
-use Rattle.std.proofs.lemmas.List.Elements.{All-nil, All-cons}
 use Rattle.std.proofs.lemmas.List.Sums.{sum_by-cons}
-use Rattle.cache_key.specs.Key.{Key, same_key}
 use Rattle.engine_resource.specs.Resource.{ResourceValue}
 use Rattle.finite_maps.specs.Maps.{map_values}
 use Rattle.finite_maps.specs.MapLaws.{not_Some, same_Some, get-map_values, get-remove_other}
@@ -19,10 +16,11 @@ use Rattle.memory_cache.specs.Cache.{CacheValue, number_in, size_in, has_number,
 use Rattle.resource_table.specs.Resources as table
 use Rattle.engine_world.specs.World.{Resource, Resources, World}
 use Rattle.engine_world.specs.Places.{one_if, occurrences}
-use Rattle.engine_world.specs.Moves.{key_is, has_key, allocation_of, size_of, without, pool_resource, to_pool, cached_to_pool}
+use Rattle.engine_world.specs.Moves.{has_key, allocation_of, size_of, without, pool_resource, to_pool, cached_to_pool}
 use Rattle.engine_core.specs.declared.tables.Tables.TheInside.{Inside}
 use Rattle.engine_core.specs.TablesView.{resource_in, world_of, SizesAre, AreJoined}
-use Rattle.engine_core.specs.Releasing.{AreCached, IsWithin, IsIdle, AllThere}
+use Rattle.engine_core.specs.Releasing.{AreCached, IsWithin, IsIdle}
+use Rattle.engine_core.specs.Loading.{AllThere}
 use Rattle.engine_core.proofs.Joins.{some_held}
 use Rattle.engine_core.proofs.Shrinking.{here, sums_same, found}
 
@@ -30,11 +28,11 @@ use Rattle.engine_core.proofs.Shrinking.{here, sums_same, found}
 
 -- the resources of cached items are there
 pub all_there : (m : table.Resources) (items : List (ℕ × ℕ)) → ((r : ℕ) → 0 < occurrences r (map number_in items) → IsSome (get (map_values resource_in m) r)) → AllThere m items
-all_there m [] are = All-nil (λ item. IsSome (get m (number_in item)))
-all_there m (item ∷ items) are =
-    All-cons (λ item. IsSome (get m (number_in item))) item items
-    (some_held (get m (number_in item)) (ap is_some (sym (get-map_values nat_cmp resource_in m (number_in item))) ∙ are (number_in item) (let one = here (number_in item) in omega (arith, one))))
-    (all_there m items (λ r some. are r (omega (arith, some))))
+all_there m [] are = tt
+all_there m (item ∷ items) are = (
+  some_held (get m (number_in item)) (ap is_some (sym (get-map_values nat_cmp resource_in m (number_in item))) ∙ are (number_in item) (let one = here (number_in item) in omega (arith, one))),
+  all_there m items (λ r some. are r (omega (arith, some))),
+)
 
 -- a number that does not stand there
 pub has_none : (r : ℕ) (items : List (ℕ × ℕ)) → occurrences r (map number_in items) ≡ 0 → has_number r items ≡ false
@@ -137,22 +135,6 @@ find_stands p (x ∷ xs) r is = elim (p x) as (λ t. cond t (Some x) (find p xs)
   | true ↦ λ is. let one : one_if (eqb x r) ≡ 1 = ap (λ n. one_if (eqb n r)) (same_Some _ _ is) ∙ here r in omega (arith, one)
   | false ↦ λ is. let rest = find_stands p xs r is in omega (arith, rest)
 ] is
-
--- whether a resource of the table has a key
-pub has_key_at : (m : table.Resources) (key : Key) (r : ℕ) (x : ResourceValue) → get m r ≡ Some x → has_key (map_values resource_in m) key r ≡ same_key x.key key
-has_key_at m key r x is = ap (key_is key) (get-map_values nat_cmp resource_in m r ∙ ap (option_map resource_in) is)
-
-module _ (p : ℕ → Bool) (items : List (ℕ × ℕ)) (i : ℕ) (less : i < length items) where
-  parted : find p (map number_in (drop i items)) ≡ cond (p (get_or items i (0, 0)).0) (Some (get_or items i (0, 0)).0) (find p (map number_in (drop (i + 1) items)))
-  parted = ap (λ l. find p (map number_in l)) (drop_more items i (0, 0) less)
-
-  -- the item here passes
-  pub found_here : p (get_or items i (0, 0)).0 ≡ true → Some (get_or items i (0, 0)).0 ≡ find p (map number_in (drop i items))
-  found_here is = sym (parted ∙ ap (λ b. cond b (Some (get_or items i (0, 0)).0) (find p (map number_in (drop (i + 1) items)))) is)
-
-  -- or it does not
-  pub found_later : p (get_or items i (0, 0)).0 ≡ false → find p (map number_in (drop (i + 1) items)) ≡ find p (map number_in (drop i items))
-  found_later is = sym (parted ∙ ap (λ b. cond b (Some (get_or items i (0, 0)).0) (find p (map number_in (drop (i + 1) items)))) is)
 
 -- ---- a resource of the world and of the table
 

@@ -1,5 +1,6 @@
 pub mod Activating
 pub mod Caching
+pub mod Finding
 pub mod Joins
 pub mod Leaving
 pub mod Lending

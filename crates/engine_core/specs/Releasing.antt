@@ -1,11 +1,8 @@
 -- What the moves of loads that go, and of resources that no load holds, ask of the world. It is this project's own.
 use Rattle.std.specs.Prelude.{◌≡◌, ℕ, ◌<◌, ◌≤◌, List, [], length, sum_by, Some, None, IsSome}
-use Rattle.std.specs.List.{All}
 use Rattle.std.specs.FinMap.{get, remove}
 use Rattle.load_table.specs.declared.loads.LoadState.TheVariants.{Waiting, Ready, Failed}
 use Rattle.load_table.specs.Loads.{holders}
-use Rattle.memory_cache.specs.Cache.{number_in}
-use Rattle.resource_table.specs.Resources as table
 use Rattle.engine_world.specs.World.{LoadState, Job, Resource, World}
 use Rattle.engine_world.specs.Places.{occurrences}
 use Rattle.engine_world.specs.Moves.{size_of}
@@ -28,10 +25,6 @@ pub record IsIdle (w : World) (r : ℕ) : Type 0 where
   pub uncached : occurrences r w.cached ≡ 0
   pub cached : AreCached w
   pub within : IsWithin w
-
--- The resources of these items are there.
-abbrev pub AllThere : table.Resources → List (ℕ × ℕ) → Type 0
-AllThere resources items = All (λ item. IsSome (get resources (number_in item))) items
 
 -- A job that is queued has no bitmap.
 abbrev pub QueuedHasNone : World → ℕ → Type 0

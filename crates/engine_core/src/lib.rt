@@ -3,6 +3,7 @@
 
 mod bitmaps;
 mod live_jobs;
+mod loading;
 mod releasing;
 mod replies;
 mod tables;

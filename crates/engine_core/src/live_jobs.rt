@@ -3,6 +3,7 @@
 ghost use Rattle.std.specs.Prelude.{◌≡◌};
 ghost use Rattle.std.specs.FinMap.{empty};
 
+use cache_key::LoadSpec;
 use engine_world::Lent;
 use state_machine::SnapshotUpdate;
 use std::marker::Model;
@@ -29,6 +30,23 @@ pub fn no_live_jobs() -> Snapshot<NoJobs>
     ensures { result.value ≡ empty }
 {
     Snapshot::of(&NoJobs {})
+}
+
+/// A job, and what the load that starts it asks for.
+#[derive(Drop)]
+pub struct Begin {
+    pub job: u64,
+    pub wanted: Snapshot<LoadSpec>,
+}
+
+/// A job is queued.
+pub struct JobBegins;
+
+impl SnapshotUpdate<Begin, NoJobs> for JobBegins {
+    ghost use Rattle.std.specs.FinMap.{insert};
+    ghost use Rattle.engine_world.specs.Steps.{queued};
+
+    ghost updated = { λ jobs begin. insert jobs begin.job (queued begin.wanted.value) };
 }
 
 /// A job goes.

@@ -1,41 +1,22 @@
 // The moves of loads that go, and of resources that no load holds.
-ghost use Rattle.std.specs.Prelude.{◌≡◌, ℕ, ◌<◌, ◌≤◌, true, false, length, map, Some, IsSome, IfSome};
+ghost use Rattle.std.specs.Prelude.{◌≡◌, ℕ, ◌<◌, ◌≤◌, true, false, length, Some, IsSome, IfSome};
 ghost use Rattle.std.specs.FinMap.{get};
-ghost use Rattle.std.specs.List.{find};
-ghost use Rattle.finite_maps.specs.Maps.{map_values};
-ghost use Rattle.memory_cache.specs.Cache.{number_in};
 ghost use Rattle.load_table.specs.Loads.{holders};
 ghost use Rattle.load_table.specs.declared.loads.LoadState.TheVariants.{Ready};
 ghost use Rattle.engine_world.specs.World.{Resource};
 ghost use Rattle.engine_world.specs.Places.{occurrences};
-ghost use Rattle.engine_world.specs.Moves.{has_key, size_of, cached_of, shrink_cache, cached_to_pool, cache_first, to_cache, let_go, leave_job, trim_to};
+ghost use Rattle.engine_world.specs.Moves.{size_of, cached_of, shrink_cache, cached_to_pool, cache_first, to_cache, let_go, leave_job, trim_to};
 ghost use Rattle.engine_world.specs.Steps.{release, released, trim};
 ghost use Rattle.engine_core.specs.Conditions.{IsLive};
-ghost use Rattle.engine_core.specs.TablesView.{resource_in};
-ghost use Rattle.engine_core.specs.Releasing.{AreCached, IsIdle, QueuedHasNone, AllThere, MayRelease};
+ghost use Rattle.engine_core.specs.Releasing.{AreCached, IsIdle, QueuedHasNone, MayRelease};
 
 use crate::live_jobs::JobLeft;
+use crate::loading::first_with;
 use crate::tables::Tables;
 use bitmap_pool::numbers_stand_for_bitmaps;
-use cache_key::EngineKey;
 use load_table::LoadState;
 use memory_cache::eldest_goes_first;
-use resource_table::ResourceTable;
 use snapshots::update_snapshot;
-
-// The first of these items whose resource has this key.
-fn first_cached(items: &[(u64, u64)], resources: &ResourceTable, key: &EngineKey) -> Option<u64>
-    requires { AllThere resources.now.resources items.now }
-    ensures { let resources = map_values resource_in resources.now.resources in
-        result ≡ find (has_key resources key.now) (map number_in items.now) }
-{
-    for item in items {
-        if resources.get(item.0).key().is(key) {
-            return Some(item.0);
-        }
-    }
-    None
-}
 
 impl Tables {
     // The eldest leaves the memory cache for the pool, where the cache is over. It answers whether one did.
@@ -101,7 +82,7 @@ impl Tables {
             → result ≡ cached_of self.now.resources self.now.cached resource.key }
     {
         let key = self.resources.get(number).key();
-        first_cached(self.cache.items(), &self.resources, key)
+        first_with(&self.resources, self.cache.items(), key)
     }
 
     // A cached resource leaves the memory cache and goes to the pool.
