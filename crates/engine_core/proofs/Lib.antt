@@ -1,8 +1,10 @@
 pub mod Activating
 pub mod Caching
+pub mod Counted
 pub mod Finding
 pub mod Joins
 pub mod Leaving
 pub mod Lending
 pub mod MovedMaps
+pub mod Opened
 pub mod Shrinking

@@ -4,5 +4,6 @@ pub mod Lending
 pub mod LiveJobs
 pub mod Loading
 pub mod Noted
+pub mod Opening
 pub mod Releasing
 pub mod TablesView

@@ -4,8 +4,10 @@
 mod bitmaps;
 mod live_jobs;
 mod loading;
+mod opening;
 mod releasing;
 mod replies;
 mod tables;
+mod totals;
 
 pub use replies::{Limits, Piece, Reply};

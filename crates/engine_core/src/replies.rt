@@ -10,9 +10,9 @@ use std::marker::Model;
 /// The greatest sizes of pool and memory cache in bytes, and for each seat how many loads it may have at a time.
 #[derive(Drop)]
 pub struct Limits {
-    pool: u64,
-    memory: u64,
-    quotas: Vec<u32>,
+    pub(crate) pool: u64,
+    pub(crate) memory: u64,
+    pub(crate) quotas: Vec<u32>,
 }
 
 impl Model for Limits {

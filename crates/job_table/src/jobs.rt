@@ -144,6 +144,13 @@ impl JobTable {
         number
     }
 
+    /// How many jobs were added.
+    pub fn added(&self) -> u64
+        ensures { result ≡ self.now.added }
+    {
+        self.added
+    }
+
     /// The live job of this key and kind that is not cancelled. `cached` is the kind: whether only what is cached may answer.
     pub fn find(&self, key: &EngineKey, cached: bool) -> Option<u64>
         ensures value { result ≡ job_for key.now cached self.now.jobs }
