@@ -7,4 +7,6 @@ pub mod Leaving
 pub mod Lending
 pub mod MovedMaps
 pub mod Opened
+pub mod Permitted
 pub mod Shrinking
+pub mod Stepping

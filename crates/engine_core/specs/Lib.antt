@@ -1,4 +1,13 @@
+pub use Rattle.state_machine.specs.Histories
+pub use Rattle.engine_world.specs.World
+pub use Rattle.engine_world.specs.Steps
+pub use Rattle.engine_world.specs.Knowledge
+pub use Rattle.engine_world.specs.Permits
+pub use Rattle.engine_world.specs.Sound
+pub use Rattle.engine_world.specs.Rooms
+pub use Rattle.engine_world.specs.EngineMachine
 pub mod Conditions
+pub mod CoreView
 pub mod InOrder
 pub mod Lending
 pub mod LiveJobs

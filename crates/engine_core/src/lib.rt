@@ -1,7 +1,10 @@
 //! The engine core: the six tables joined to one state, and a step for each event.
 #![tactic(auto)]
 
+mod answers;
 mod bitmaps;
+mod cores;
+mod history;
 mod live_jobs;
 mod loading;
 mod opening;
@@ -10,4 +13,5 @@ mod replies;
 mod tables;
 mod totals;
 
+pub use cores::Core;
 pub use replies::{Limits, Piece, Reply};
