@@ -1,10 +1,9 @@
-use Rattle.std.proofs.Common.{◌≡◌, ◌<◌, length, None, ap, sym, subst, ◌∙◌}
+use Rattle.std.proofs.Common.{◌<◌, length, ap, sym, subst, ◌∙◌}
 use Rattle.state_machine.specs.Histories.{entry}
 use Rattle.engine_world.specs.World.{Limits, World}
 use Rattle.engine_world.specs.Knowledge.{knowledge_in}
 use Rattle.engine_world.specs.Permits.{Permits}
 use Rattle.engine_core.specs.CoreView.{note_of}
-use Rattle.engine_core.specs.inside.Seats.{IsServed}
 use Rattle.engine_core.proofs.Tested.{own_known, other_known}
 use Rattle.engine_core.proofs.tests.act.Goals as goal
 

@@ -1,4 +1,4 @@
-use Rattle.std.proofs.Common.{◌≡◌, ◌+◌, ◌≤◌, ap, ◌∙◌, arith}
+use Rattle.std.proofs.Common.{ap, ◌∙◌, arith}
 use Rattle.engine_world.specs.Knowledge.{Knowledge, knowledge_in}
 use Rattle.engine_core.specs.Noted.{noted}
 use Rattle.engine_core.proofs.Tested.{load_begun, load_job}
