@@ -10,4 +10,3 @@ pub mod Opened
 pub mod Permitted
 pub mod Shrinking
 pub mod Stepping
-pub mod Tested

@@ -16,4 +16,3 @@ pub mod Noted
 pub mod Opening
 pub mod Releasing
 pub mod TablesView
-pub mod inside

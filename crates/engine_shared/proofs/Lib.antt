@@ -1,0 +1,3 @@
+pub mod EngineLaws
+pub mod Steps
+pub mod Pictures

@@ -1,0 +1,12 @@
+//! The engine as one of its callers sees it: the calls, what a caller has of the engine, and what each call does.
+#![tactic(auto)]
+
+mod answers;
+mod calls;
+mod laws;
+mod tokens;
+
+pub use answers::{Full, Next, Outcome};
+pub use calls::EngineCalls;
+pub use laws::{calls_add_entries, holds_show_one_picture};
+pub use tokens::{Hold, JobPass};
