@@ -1,3 +1,6 @@
 pub mod EngineLaws
 pub mod Steps
 pub mod Pictures
+pub mod Staying
+pub mod Following
+pub mod Looking

@@ -97,6 +97,7 @@ module _ (laws : EngineLaws) where
         seen = refl;
         none_own = none;
         led = led;
+        past = past;
         step = step;
         legal = next;
         content = fixed.1;

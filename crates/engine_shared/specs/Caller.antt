@@ -86,6 +86,7 @@ pub record IsCall (old : Caller) (event : Event) (reply : NotedReply) (new : Cal
   pub seen : new.seen ≡ (old.seen ++ others) ++ entry_of old event reply ∷ []
   pub none_own : own old.who others ≡ []
   pub led : Leads old.world others before
+  pub past : IsPast before (old.seen ++ others)
   pub step : Transition before old.who event reply new.world
   pub legal : IsLegal new
   -- and what follows from these, for callers

@@ -1,9 +1,9 @@
 // The laws of callers, each as the contract of a function that calls the laws that it follows from.
-ghost use Rattle.engine_shared.specs.CallLaws.{ShowsItsPicture, ShowsOnePicture, StepsAreCalls};
+ghost use Rattle.engine_shared.specs.CallLaws.{ShowsItsPicture, ShowsOnePicture, StepsAreCalls, FullExactly, LoadsAreOwn, JobsAreOwn, TakesAnother, ReadyLoadsShow, LooksAtIt, ReadsIt, LoadsStay, ReadyLoadsStay};
 
 use engine_world::{
     Note, NotedReply, each_event_keeps_opening, each_history_is_sound, each_history_keeps_holds,
-    ready_loads_show_their_keys,
+    ready_loads_show_their_keys, taken_bitmaps_were_free,
 };
 use state_machine::own_entries_append;
 use std::marker::Model;
@@ -47,4 +47,25 @@ pub fn calls_add_entries()
     ready_loads_show_their_keys();
     each_event_keeps_opening();
     own_entries_append::<Note>();
+}
+
+/// What the contracts of the calls say besides of loads, jobs and bitmaps follows from the entries that they add. Callers use
+/// the last two: what they have stays so through calls whose contracts say nothing of it.
+pub fn calls_tell_what_they_add()
+    ensures full { FullExactly }
+    ensures loads { LoadsAreOwn }
+    ensures jobs { JobsAreOwn }
+    ensures takes { TakesAnother }
+    ensures ready { ReadyLoadsShow }
+    ensures looks { LooksAtIt }
+    ensures reads { ReadsIt }
+    ensures stay { LoadsStay }
+    ensures stay_ready { ReadyLoadsStay }
+{
+    each_history_is_sound::<Seen, NotedReply>();
+    each_history_keeps_holds::<Seen, NotedReply>();
+    ready_loads_show_their_keys();
+    each_event_keeps_opening();
+    own_entries_append::<Note>();
+    taken_bitmaps_were_free();
 }

@@ -8,5 +8,5 @@ mod tokens;
 
 pub use answers::{Full, Next, Outcome};
 pub use calls::EngineCalls;
-pub use laws::{calls_add_entries, holds_show_one_picture};
+pub use laws::{calls_add_entries, calls_tell_what_they_add, holds_show_one_picture};
 pub use tokens::{Hold, JobPass};
