@@ -4,3 +4,4 @@ pub mod Pictures
 pub mod Staying
 pub mod Following
 pub mod Looking
+pub mod Owning

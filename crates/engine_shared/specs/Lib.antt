@@ -6,3 +6,4 @@ pub mod Tokens
 pub mod Caller
 pub mod Answers
 pub mod CallLaws
+pub mod Owned
