@@ -7,3 +7,4 @@ pub mod Caller
 pub mod Answers
 pub mod CallLaws
 pub mod Owned
+pub mod Replied

@@ -5,6 +5,7 @@ mod alone;
 mod answers;
 mod calls;
 mod laws;
+mod replied;
 mod tokens;
 
 pub use alone::Alone;
