@@ -1,6 +1,6 @@
 -- A new resource among the keys of the table, and the active one of its key.
-use Rattle.std.proofs.Common.{◌≡◌, ◌≢◌, ℕ, ◌+◌, ◌<◌, ◌≤◌, Bool, true, false, eqb, inl, inr, List, [], ◌∷◌, map, Some, None, Option, refl, ap, sym, subst, ◌∙◌, arith, true≢false}
-use Rattle.std.specs.Prelude.{IsSome, is_some, IsTrue, ◌↔◌}
+use Rattle.std.proofs.Common.{◌≡◌, ◌≢◌, ℕ, Bool, true, false, inl, inr, List, [], ◌∷◌, map, Some, None, Option, refl, ap, sym, subst, ◌∙◌, arith}
+use Rattle.std.specs.Prelude.{is_some, IsTrue, ◌↔◌}
 use Rattle.std.specs.Option.{option_map}
 use Rattle.std.specs.Ordering.{nat_cmp}
 use Rattle.std.specs.FinMap.{get, insert, nat_cmp-IsAntisymmetric}
@@ -12,14 +12,13 @@ use Rattle.memory_cache.specs.Cache.{number_in}
 use Rattle.finite_maps.specs.Maps.{map_values}
 use Rattle.finite_maps.specs.MapLaws.{not_Some, same_Some, get-map_values, get-insert_same, get-insert_other, insert_cases}
 use Rattle.cache_key.specs.Key.{Key, same_key}
-use Rattle.cache_key.specs.KeyOf.{KeyMap}
 use Rattle.engine_resource.specs.Resource.{ResourceValue}
 use Rattle.resource_table.specs.Resources as table
 use Rattle.resource_table.specs.Resources.{keys_of}
 use Rattle.active_resources.specs.Actives as actives
 use Rattle.active_resources.specs.Actives.{Numbers, ActiveValue, Fits, TellsIt, activated}
 use Rattle.engine_world.specs.World.{Loads, Resource, Resources, World}
-use Rattle.engine_world.specs.Moves.{key_is, has_key, allocation_of, active_of}
+use Rattle.engine_world.specs.Moves.{key_is, allocation_of, active_of}
 use Rattle.engine_world.specs.Sound.{ActiveAre}
 use Rattle.engine_world.specs.Steps.{replace, activate}
 use Rattle.engine_world.specs.Laws.{FindsActive}

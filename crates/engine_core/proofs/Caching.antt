@@ -1,12 +1,11 @@
 -- What goes to the memory cache, and what leaves it by its number.
-use Rattle.std.proofs.Common.{◌≡◌, ◌≢◌, ℕ, ◌+◌, ◌-◌, ◌<◌, ◌≤◌, Bool, true, false, cond, eqb, ltb, leb, List, [], ◌∷◌, ◌++◌, length, map, take, drop, get_or, Some, None, Option, refl, ap, sym, subst, ◌∙◌, arith, true≢false}
-use Rattle.std.specs.Prelude.{IsSome, is_some, ◌||◌, not, sum_by, filter, find}
-use Rattle.std.specs.List.{list_any}
+use Rattle.std.proofs.Common.{◌≡◌, ◌≢◌, ℕ, ◌+◌, ◌<◌, ◌≤◌, Bool, true, false, cond, eqb, ltb, List, [], ◌∷◌, length, map, Some, refl, ap, sym, subst, ◌∙◌, arith, true≢false}
+use Rattle.std.specs.Prelude.{IsSome, is_some, ◌||◌, not, sum_by, find}
 use Rattle.std.specs.Option.{option_map}
 use Rattle.std.specs.Ordering.{nat_cmp}
 use Rattle.std.specs.FinMap.{get, remove, nat_cmp-IsAntisymmetric}
 use Rattle.std.proofs.lemmas.Cmp.{nat_cmp_total}
-use Rattle.std.proofs.lemmas.Bool.{eqb-true, eq-eqb, ne_eqb, ltb-true, ltb-false}
+use Rattle.std.proofs.lemmas.Bool.{eq-eqb, ltb-true}
 use Rattle.std.proofs.lemmas.List.Sums.{sum_by-cons}
 use Rattle.engine_resource.specs.Resource.{ResourceValue}
 use Rattle.finite_maps.specs.Maps.{map_values}
@@ -16,10 +15,10 @@ use Rattle.memory_cache.specs.Cache.{CacheValue, number_in, size_in, has_number,
 use Rattle.resource_table.specs.Resources as table
 use Rattle.engine_world.specs.World.{Resource, Resources, World}
 use Rattle.engine_world.specs.Places.{one_if, occurrences}
-use Rattle.engine_world.specs.Moves.{has_key, allocation_of, size_of, without, pool_resource, to_pool, cached_to_pool}
+use Rattle.engine_world.specs.Moves.{allocation_of, size_of, without, pool_resource, cached_to_pool}
 use Rattle.engine_core.specs.declared.tables.Tables.TheInside.{Inside}
-use Rattle.engine_core.specs.TablesView.{resource_in, world_of, SizesAre, AreJoined}
-use Rattle.engine_core.specs.Releasing.{AreCached, IsWithin, IsIdle}
+use Rattle.engine_core.specs.TablesView.{resource_in, world_of, SizesAre}
+use Rattle.engine_core.specs.Releasing.{IsIdle}
 use Rattle.engine_core.specs.Loading.{AllThere}
 use Rattle.engine_core.proofs.Joins.{some_held}
 use Rattle.engine_core.proofs.Shrinking.{here, sums_same, found}

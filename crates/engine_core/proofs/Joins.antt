@@ -1,5 +1,5 @@
 -- How a move of one table is seen in the world.
-use Rattle.std.proofs.Common.{◌≡◌, ◌≢◌, ℕ, ◌+◌, ◌≤◌, Bool, true, false, cond, eqb, List, [], ◌∷◌, ◌++◌, length, map, Some, None, Option, refl, ap, sym, subst, ◌∙◌, arith}
+use Rattle.std.proofs.Common.{◌≡◌, ◌≢◌, ℕ, ◌+◌, true, false, eqb, List, [], ◌∷◌, length, map, Some, None, Option, refl, ap, sym, ◌∙◌, arith}
 use Rattle.std.specs.Prelude.{IsSome, is_some}
 use Rattle.std.specs.Option.{option_map}
 use Rattle.std.specs.Ordering.{nat_cmp}
@@ -14,17 +14,16 @@ use Rattle.memory_cache.specs.Cache.{number_in}
 use Rattle.bitmap_kind.specs.Picture.{BitmapValue}
 use Rattle.bitmap_pool.specs.Pool.{Group, PoolValue, put_into, pool_put}
 use Rattle.bitmap_pool.specs.Numbered.{numbered, PutsAlike}
-use Rattle.job_table.specs.declared.jobs.Job.{Job as TableJob}
 use Rattle.job_table.specs.Jobs.{JobTableValue, is_queued, queued_in, IsNext}
 use Rattle.engine_world.specs.World.{Job, Jobs, Resource, Resources, World}
 use Rattle.engine_world.specs.Places.{one_if, occurrences}
-use Rattle.engine_world.specs.Moves.{table_job, table_jobs, allocation_of, size_of, pool_resource, to_pool, without_lent, take_back}
+use Rattle.engine_world.specs.Moves.{table_job, table_jobs, allocation_of, pool_resource, to_pool, take_back}
 use Rattle.engine_world.specs.Steps.{run_on, start_job, give_back}
 use Rattle.engine_core.specs.declared.tables.Tables.TheInside.{Inside}
 use Rattle.engine_core.specs.Conditions.{IsLive}
 use Rattle.engine_core.specs.LiveJobs.{less_lent}
 use Rattle.engine_core.specs.TablesView.{resource_in, world_of, SizesAre, AreJoined}
-use Rattle.engine_core.proofs.MovedMaps.{moved_insert, moved_remove, moved_there, moved_modify, moved_same}
+use Rattle.engine_core.proofs.MovedMaps.{moved_remove, moved_there}
 
 -- ---- jobs
 

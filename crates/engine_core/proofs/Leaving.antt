@@ -1,15 +1,13 @@
 -- A job on which no load waits any more, in the table and in the world.
-use Rattle.std.proofs.Common.{◌≡◌, ◌≢◌, ℕ, ◌+◌, ◌≤◌, Bool, true, false, cond, eqb, List, [], ◌∷◌, length, Some, None, Option, refl, ap, sym, subst, ◌∙◌, arith, true≢false}
-use Rattle.std.specs.Option.{option_map, is_none}
-use Rattle.std.specs.Ordering.{nat_cmp}
+use Rattle.std.proofs.Common.{◌≡◌, ℕ, true, false, cond, [], length, Some, None, refl, ap, sym, ◌∙◌, arith}
+use Rattle.std.specs.Option.{is_none}
 use Rattle.std.specs.FinMap.{get, insert, remove, nat_cmp-IsAntisymmetric}
 use Rattle.std.proofs.lemmas.Cmp.{nat_cmp_total}
 use Rattle.finite_maps.specs.Maps.{total, modify, passes}
 use Rattle.finite_maps.specs.MapLaws.{modify_there}
-use Rattle.job_table.specs.Jobs as table
 use Rattle.job_table.specs.Jobs.{queued_in, after_cancel, marked, is_queued}
 use Rattle.engine_world.specs.World.{Job, Jobs, World}
-use Rattle.engine_world.specs.Moves.{table_job, table_jobs, cancel_job, leave_job}
+use Rattle.engine_world.specs.Moves.{table_job, table_jobs, cancel_job}
 use Rattle.engine_core.specs.LiveJobs.{left, left_by}
 use Rattle.engine_core.proofs.MovedMaps.{moved_there, moved_modify}
 use Rattle.engine_core.proofs.Joins.{jobs_ended, out_ended, out_changed}

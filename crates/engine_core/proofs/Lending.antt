@@ -1,32 +1,25 @@
 -- How lending a bitmap, and taking it back as a resource, are seen in the world.
-use Rattle.std.proofs.Common.{◌≡◌, ◌≢◌, ℕ, ◌+◌, ◌<◌, ◌≤◌, Bool, true, false, cond, eqb, List, [], ◌∷◌, ◌++◌, length, map, Some, None, Option, refl, ap, sym, subst, ◌∙◌, arith, true≢false}
-use Rattle.std.specs.Prelude.{IsSome, is_some, not, ◌↔◌}
+use Rattle.std.proofs.Common.{◌≡◌, ℕ, ◌+◌, List, [], ◌∷◌, length, Some, None, Option, refl, ap, sym, subst, ◌∙◌, arith}
 use Rattle.std.specs.Option.{option_map}
 use Rattle.std.specs.Ordering.{nat_cmp}
-use Rattle.std.specs.FinMap.{get, insert, remove, len, entries, len-entries, nat_cmp-IsAntisymmetric}
-use Rattle.std.specs.FinSet as set
+use Rattle.std.specs.FinMap.{get, remove, len, entries, len-entries, nat_cmp-IsAntisymmetric}
 use Rattle.std.proofs.lemmas.Cmp.{nat_cmp_total}
 use Rattle.finite_maps.specs.Maps.{sum_over, total, map_values, modify}
-use Rattle.finite_maps.specs.MapLaws.{not_Some, same_Some, get-map_values, modify_there, get-insert_same, get-insert_other, total-remove, total-map_values}
-use Rattle.bitmap_kind.specs.declared.bitmaps.Config.{Config}
-use Rattle.bitmap_kind.specs.Picture.{BitmapValue, reconfigured, stored_size}
-use Rattle.bitmap_pool.specs.Pool.{Group, Picked, PoolValue, put_into, pool_put, pool_pick}
+use Rattle.finite_maps.specs.MapLaws.{not_Some, same_Some, modify_there, total-remove, total-map_values}
+use Rattle.bitmap_kind.specs.Picture.{BitmapValue, reconfigured}
+use Rattle.bitmap_pool.specs.Pool.{Group, Picked, PoolValue, put_into, pool_pick}
 use Rattle.bitmap_pool.specs.Numbered.{numbered, picked_as, PutsAlike}
-use Rattle.cache_key.specs.Key.{Key}
-use Rattle.cache_key.specs.KeyOf.{KeyMap}
-use Rattle.engine_resource.specs.Resource.{ResourceValue}
 use Rattle.resource_table.specs.Resources.{keys_of}
-use Rattle.active_resources.specs.Actives.{Numbers, Fits, TellsIt, NobodyHas}
 use Rattle.engine_world.specs.declared.events.Lent.{Lent}
 use Rattle.engine_world.specs.declared.events.NotedReply.{NotedReply}
-use Rattle.engine_world.specs.World.{Job, Jobs, Resource, Resources, World}
-use Rattle.engine_world.specs.Moves.{has_key, active_of, lend}
+use Rattle.engine_world.specs.World.{Job, Jobs, Resources, World}
+use Rattle.engine_world.specs.Moves.{lend}
 use Rattle.engine_world.specs.Steps.{Wanted, wanted_size, lent_as, take_pooled, IsOutcome, TakeFrom, Take, bitmap_to_pool}
 use Rattle.engine_core.specs.declared.tables.LoadCounts.{LoadCounts}
 use Rattle.engine_core.specs.declared.tables.Tables.TheInside.{Inside}
 use Rattle.engine_core.specs.LiveJobs.{with_lent}
 use Rattle.engine_core.specs.Noted.{lent_by}
-use Rattle.engine_core.specs.TablesView.{resource_in, world_of, SizesAre, AreJoined}
+use Rattle.engine_core.specs.TablesView.{resource_in, world_of, AreJoined}
 
 -- ---- what the tables keep among one another
 

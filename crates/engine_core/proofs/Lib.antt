@@ -10,3 +10,4 @@ pub mod Opened
 pub mod Permitted
 pub mod Shrinking
 pub mod Stepping
+pub mod Tested

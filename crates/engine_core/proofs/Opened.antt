@@ -1,8 +1,8 @@
 -- What the tables have when there is nothing in them.
-use Rattle.std.proofs.Common.{◌≡◌, ℕ, List, [], ◌∷◌, length, map, Some, None, refl, ap, sym, ◌∙◌}
-use Rattle.std.specs.Prelude.{zero, suc, replicate}
+use Rattle.std.proofs.Common.{◌≡◌, ℕ, List, [], ◌∷◌, length, refl, ap, sym, ◌∙◌}
+use Rattle.std.specs.Prelude.{replicate}
 use Rattle.std.specs.Ordering.{nat_cmp}
-use Rattle.std.specs.FinMap.{FinMap, get, empty, entries, len-empty, len-entries, empty_of_len}
+use Rattle.std.specs.FinMap.{empty, entries, len-empty, len-entries, empty_of_len}
 use Rattle.std.proofs.lemmas.List.{nil_from_length}
 use Rattle.finite_maps.specs.Maps.{sum_over, total, map_values}
 use Rattle.engine_world.specs.World.{none_begun}

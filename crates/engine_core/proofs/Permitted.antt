@@ -1,31 +1,29 @@
 -- What a sound world and a seat's knowledge give of what the moves of the tables ask.
-use Rattle.std.proofs.Common.{◌≡◌, ◌≢◌, ℕ, ◌+◌, ◌*◌, ◌-◌, ◌<◌, ◌≤◌, ◌⊎◌, Bool, true, false, cond, eqb, ltb, List, [], ◌∷◌, length, map, Some, None, Option, refl, ap, sym, subst, ◌∙◌, inl, inr, arith, true≢false}
-use Rattle.std.specs.Prelude.{IsSome, is_some, IfSome, ◌&&◌, not, filter, sum_by}
+use Rattle.std.proofs.Common.{◌≡◌, ℕ, ◌+◌, ◌<◌, ◌≤◌, true, false, cond, eqb, ltb, List, [], ◌∷◌, length, map, Some, None, Option, refl, ap, sym, subst, ◌∙◌, inl, inr, arith}
+use Rattle.std.specs.Prelude.{IsSome, is_some, IfSome, ◌&&◌, not}
 use Rattle.std.specs.Ordering.{nat_cmp}
 use Rattle.std.specs.Cmp.{IsTotalOrder}
-use Rattle.std.specs.FinMap.{IsAntisymmetric, get, remove, nat_cmp-IsAntisymmetric}
+use Rattle.std.specs.FinMap.{IsAntisymmetric, get, nat_cmp-IsAntisymmetric}
 use Rattle.std.proofs.lemmas.Cmp.{nat_cmp_total, on_total, then_total}
 use Rattle.std.proofs.lemmas.Map.Lookups.{exact_pairs}
-use Rattle.std.proofs.lemmas.Bool.{eqb-true, eq-eqb, ltb-true, lt-ltb}
-use Rattle.finite_maps.specs.Maps.{total}
-use Rattle.finite_maps.specs.MapLaws.{not_Some, same_Some, le-total}
+use Rattle.std.proofs.lemmas.Bool.{lt-ltb}
+use Rattle.finite_maps.specs.MapLaws.{same_Some, le-total}
 use Rattle.bitmap_kind.specs.Picture.{BitmapValue}
 use Rattle.load_cause.specs.declared.causes.Cause.{Cause}
 use Rattle.load_table.specs.declared.loads.LoadState.TheVariants.{Waiting, Ready, Failed}
-use Rattle.load_table.specs.Loads.{LoadName, load_cmp, Loads, ready_on, holders}
-use Rattle.bitmap_pool.specs.Pool.{pooled}
+use Rattle.load_table.specs.Loads.{LoadName, load_cmp, ready_on, holders}
 use Rattle.engine_world.specs.declared.events.Lent.{Lent}
 use Rattle.engine_world.specs.World.{LoadState, Job, Resource, World}
-use Rattle.engine_world.specs.Places.{one_if, occurrences, lent_numbers, is_held, times_out, times_kept, whereabouts}
+use Rattle.engine_world.specs.Places.{one_if, occurrences, lent_numbers, is_held, times_out}
 use Rattle.engine_world.specs.Moves.{without_lent}
 use Rattle.engine_world.specs.Knowledge.{OwnLoad, Knowledge}
-use Rattle.engine_world.specs.Permits.{IsOwn, IsRunning, IsLent, IsAmongLent, IsResult}
-use Rattle.engine_world.specs.Sound.{RefersTo, LoadsAgree, LoadAgrees, JobAgrees, Sound}
+use Rattle.engine_world.specs.Permits.{IsOwn, IsRunning, IsAmongLent, IsResult}
+use Rattle.engine_world.specs.Sound.{LoadsAgree, JobAgrees, Sound}
 use Rattle.engine_world.specs.Rooms.{WithinLimits, FitsRooms}
 use Rattle.engine_core.specs.Opening.{AreServed}
 use Rattle.engine_core.specs.Conditions.{IsLive}
 use Rattle.engine_core.specs.Lending.{MayCount, HasOne, HasPlaceFor}
-use Rattle.engine_core.specs.Releasing.{AreCached, IsWithin, IsIdle, QueuedHasNone, MayRelease}
+use Rattle.engine_core.specs.Releasing.{AreCached, IsIdle, QueuedHasNone, MayRelease}
 use Rattle.engine_core.proofs.Shrinking.{here}
 
 load_total : IsTotalOrder load_cmp

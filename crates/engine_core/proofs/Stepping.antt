@@ -1,10 +1,9 @@
 -- A step that was made and added to the history leaves a core.
-use Rattle.std.proofs.Common.{◌≡◌, ℕ, ◌<◌, Bool, true, false, cond, eqb, List, [], ◌∷◌, ◌++◌, length, refl, ap, sym, subst, ◌∙◌}
+use Rattle.std.proofs.Common.{◌≡◌, ℕ, true, false, cond, eqb, List, [], ◌∷◌, ◌++◌, refl, ap, sym, subst, ◌∙◌}
 use Rattle.state_machine.specs.declared.entry.Entry.{Entry}
 use Rattle.state_machine.specs.Histories.{own}
 use Rattle.state_machine.specs.Laws.{OwnEntriesAppend}
 use Rattle.engine_world.specs.declared.events.Event.{Event}
-use Rattle.engine_world.specs.declared.events.NotedReply.{NotedReply}
 use Rattle.engine_world.specs.declared.events.Note.{Note}
 use Rattle.outside.specs.Content.{Contents}
 use Rattle.std.specs.declared.option.Option.{Option}

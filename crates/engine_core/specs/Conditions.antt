@@ -1,7 +1,7 @@
 -- What the moves of the tables ask of the world. It is this project's own.
-use Rattle.std.specs.Prelude.{◌≡◌, ℕ, ◌+◌, ◌*◌, ◌<◌, ◌≤◌, ◌^◌, Some, None}
+use Rattle.std.specs.Prelude.{◌≡◌, ℕ, Some}
 use Rattle.std.specs.FinMap.{get}
-use Rattle.load_table.specs.declared.loads.LoadState.TheVariants.{Waiting, Ready, Failed}
+use Rattle.load_table.specs.declared.loads.LoadState.TheVariants.{Ready}
 use Rattle.engine_world.specs.World.{Job, Resource, World}
 
 -- A load is ready on a resource that is there.

@@ -16,3 +16,4 @@ pub mod Noted
 pub mod Opening
 pub mod Releasing
 pub mod TablesView
+pub mod inside

@@ -1,5 +1,5 @@
 -- What a history keeps of a reply. It is this project's own.
-use Rattle.std.specs.Prelude.{ℕ, take}
+use Rattle.std.specs.Prelude.{take}
 use Rattle.bitmap_kind.specs.Picture.{BitmapValue}
 use Rattle.engine_world.specs.declared.events.Lent.{Lent}
 use Rattle.engine_world.specs.declared.events.NotedReply.{NotedReply}

@@ -1,5 +1,5 @@
 -- What the moves of loads that go, and of resources that no load holds, ask of the world. It is this project's own.
-use Rattle.std.specs.Prelude.{◌≡◌, ℕ, ◌<◌, ◌≤◌, List, [], length, sum_by, Some, None, IsSome}
+use Rattle.std.specs.Prelude.{◌≡◌, ℕ, ◌<◌, ◌≤◌, [], length, sum_by, Some, None, IsSome}
 use Rattle.std.specs.FinMap.{get, remove}
 use Rattle.load_table.specs.declared.loads.LoadState.TheVariants.{Waiting, Ready, Failed}
 use Rattle.load_table.specs.Loads.{holders}

@@ -11,6 +11,8 @@ mod opening;
 mod releasing;
 mod replies;
 mod tables;
+#[cfg(test)]
+mod tests;
 mod totals;
 
 pub use cores::Core;

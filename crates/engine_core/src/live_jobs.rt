@@ -5,7 +5,7 @@ ghost use Rattle.std.specs.FinMap.{empty};
 
 use cache_key::LoadSpec;
 use engine_world::Lent;
-use state_machine::SnapshotUpdate;
+use snapshots::SnapshotUpdate;
 use std::marker::Model;
 use std::snapshot::Snapshot;
 

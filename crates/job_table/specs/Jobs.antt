@@ -102,7 +102,7 @@ pub record IsNext (jobs : Jobs) (number : ℕ) : Type 0 where
   pub live : get jobs number ≡ Some job
   pub queued : is_queued job ≡ true
   pub first : (other : ℕ) (rival : Job) → get jobs other ≡ Some rival → is_queued rival ≡ true
-    → Precedes job.spec.priority number rival.spec.priority other
+      → Precedes job.spec.priority number rival.spec.priority other
 
 -- ---- a job on which no load waits any more
 

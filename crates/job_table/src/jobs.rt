@@ -128,8 +128,8 @@ impl JobTable {
         ensures number { result ≡ self.old.added }
         ensures added { let number = self.old.added in
             self.new ≡ record self.old {
-                added = number + 1;
-                jobs = insert self.old.jobs number (queued_job spec);
+              added = number + 1;
+              jobs = insert self.old.jobs number (queued_job spec);
             } }
     {
         same_key_is_equality();

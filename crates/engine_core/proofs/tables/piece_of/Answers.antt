@@ -1,5 +1,4 @@
 use Rattle.std.proofs.Common.{◌≡◌, ℕ, ◌-◌, ◌≤◌, List, length, take, drop, ap, sym, subst, ◌∙◌, arith}
-use Rattle.std.specs.Prelude.{min}
 use Rattle.std.proofs.lemmas.List.{take-append-le, take_all, take_min, drop_min, length-drop, length-take-le}
 use Rattle.std.proofs.Math.Nat.{min-le_right}
 use Rattle.engine_core.proofs.tables.piece_of.Goals as goal

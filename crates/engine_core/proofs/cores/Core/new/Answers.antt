@@ -1,6 +1,5 @@
-use Rattle.std.proofs.Common.{◌≡◌, List, [], sym, subst}
+use Rattle.std.proofs.Common.{List, sym, subst}
 use Rattle.state_machine.specs.declared.entry.Entry.{Entry}
-use Rattle.engine_world.specs.declared.events.Event.{Event}
 use Rattle.engine_world.specs.declared.events.Note.{Note}
 use Rattle.engine_world.specs.World.{World, opening}
 use Rattle.engine_core.specs.declared.replies.Reply.{Reply}

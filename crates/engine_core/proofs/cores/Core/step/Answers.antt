@@ -1,4 +1,4 @@
-use Rattle.std.proofs.Common.{◌≡◌, ◌<◌, List, [], ◌∷◌, ◌++◌, length, ap, sym, subst, ◌∙◌}
+use Rattle.std.proofs.Common.{◌<◌, List, [], ◌∷◌, ◌++◌, length, ap, sym, subst, ◌∙◌}
 use Rattle.state_machine.specs.declared.entry.Entry.{Entry}
 use Rattle.state_machine.specs.Histories.{entry}
 use Rattle.engine_world.specs.declared.events.Note.{Note}

@@ -1,18 +1,16 @@
-use Rattle.std.proofs.Common.{◌≡◌, ℕ, ◌<◌, Bool, true, false, Some, None, refl, ap, sym, subst, ◌∙◌, arith}
+use Rattle.std.proofs.Common.{◌≡◌, Bool, true, false, ap, sym, subst, ◌∙◌, arith}
 use Rattle.std.specs.Prelude.{is_some}
 use Rattle.std.specs.FinMap.{get, insert, len}
-use Rattle.finite_maps.specs.Maps.{map_values}
 use Rattle.bitmap_kind.specs.Picture.{BitmapValue}
-use Rattle.cache_key.specs.KeyOf.{KeyMap}
 use Rattle.engine_resource.specs.Resource.{ResourceValue}
 use Rattle.resource_table.specs.Resources as table
 use Rattle.resource_table.specs.Resources.{keys_of}
 use Rattle.active_resources.specs.Actives.{ActiveValue, Numbers, Fits, TellsIt}
-use Rattle.engine_world.specs.World.{Resource, Resources, World}
+use Rattle.engine_world.specs.World.{World}
 use Rattle.engine_world.specs.Sound.{ActiveAre}
 use Rattle.engine_world.specs.Steps.{activate}
 use Rattle.engine_core.specs.Lending.{resource_by}
-use Rattle.engine_core.specs.TablesView.{quota_sum, resource_in, world_of, AreJoined}
+use Rattle.engine_core.specs.TablesView.{quota_sum}
 use Rattle.engine_core.proofs.Lending.{as_many}
 use Rattle.engine_core.proofs.Activating.{newer_key, fits_more, replaced_is, absent_in, new_resource, with_resource, joined_with, reactivated, added_is, activated_is}
 use Rattle.engine_core.proofs.tables.Tables.add_resource.Goals as goal

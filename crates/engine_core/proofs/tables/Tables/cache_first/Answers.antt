@@ -1,12 +1,11 @@
-use Rattle.std.proofs.Common.{◌≡◌, ℕ, ◌<◌, ◌≤◌, ◌∷◌, length, map, Some, refl, ap, sym, subst, ◌∙◌, arith}
-use Rattle.std.specs.Prelude.{IsSome, is_some, sum_by}
+use Rattle.std.proofs.Common.{refl, ap, sym, subst, ◌∙◌, arith}
+use Rattle.std.specs.Prelude.{is_some}
 use Rattle.std.proofs.lemmas.List.{length-map}
 use Rattle.finite_maps.specs.Maps.{map_values}
 use Rattle.bitmap_kind.specs.Picture.{BitmapValue}
 use Rattle.memory_cache.specs.Cache.{CacheValue, number_in}
 use Rattle.engine_world.specs.World.{World}
 use Rattle.engine_world.specs.Places.{occurrences}
-use Rattle.engine_world.specs.Moves.{size_of}
 use Rattle.engine_core.specs.declared.tables.Tables.TheInside.{Inside}
 use Rattle.engine_core.specs.Releasing.{IsWithin}
 use Rattle.engine_core.specs.TablesView.{resource_in, world_of, SizesAre}

@@ -1,12 +1,10 @@
-use Rattle.std.proofs.Common.{◌≡◌, ℕ, ◌<◌, List, map, Some, ap, sym, subst, ◌∙◌}
-use Rattle.std.specs.Prelude.{IsSome, is_some}
-use Rattle.std.specs.FinMap.{get}
+use Rattle.std.proofs.Common.{◌≡◌, ℕ, List, map, ap, sym, subst, ◌∙◌}
+use Rattle.std.specs.Prelude.{is_some}
 use Rattle.std.specs.List.{find}
 use Rattle.finite_maps.specs.Maps.{map_values}
 use Rattle.memory_cache.specs.Cache.{number_in}
 use Rattle.cache_key.specs.Key.{Key}
 use Rattle.engine_world.specs.World.{Resource, Resources, World}
-use Rattle.engine_world.specs.Places.{occurrences}
 use Rattle.engine_world.specs.Moves.{has_key, cached_of}
 use Rattle.engine_core.specs.Releasing.{AreCached}
 use Rattle.engine_core.specs.Loading.{AllThere}

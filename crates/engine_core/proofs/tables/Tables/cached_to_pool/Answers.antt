@@ -1,7 +1,6 @@
 use Rattle.std.proofs.Common.{◌≡◌, ℕ, List, map, ap, sym, subst, ◌∙◌}
 use Rattle.finite_maps.specs.Maps.{map_values}
-use Rattle.memory_cache.specs.Cache as cache
-use Rattle.memory_cache.specs.Cache.{CacheValue, number_in, size_in}
+use Rattle.memory_cache.specs.Cache.{CacheValue, number_in}
 use Rattle.engine_world.specs.World.{World}
 use Rattle.engine_world.specs.Places.{occurrences}
 use Rattle.engine_world.specs.Moves.{without, to_pool}

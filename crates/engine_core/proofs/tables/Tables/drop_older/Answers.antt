@@ -1,6 +1,5 @@
-use Rattle.std.proofs.Common.{◌≡◌, ℕ, ◌<◌, Some, None, refl, ap, sym, subst, ◌∙◌}
-use Rattle.std.specs.FinMap.{get}
-use Rattle.engine_world.specs.World.{Resource, World}
+use Rattle.std.proofs.Common.{◌≡◌, ℕ, ◌<◌, Some, ap, sym, subst, ◌∙◌}
+use Rattle.engine_world.specs.World.{World}
 use Rattle.engine_world.specs.Places.{occurrences}
 use Rattle.engine_world.specs.Moves.{has_key, size_of, cached_of, cached_to_pool}
 use Rattle.engine_core.specs.Releasing.{IsIdle}

@@ -1,7 +1,7 @@
-use Rattle.std.proofs.Common.{◌≡◌, ℕ, ◌+◌, ◌-◌, length, Some, ap, sym, ◌∙◌, arith}
+use Rattle.std.proofs.Common.{◌≡◌, ℕ, ◌-◌, length, ap, sym, ◌∙◌, arith}
 use Rattle.std.specs.Prelude.{is_some}
 use Rattle.std.specs.Option.{option_map}
-use Rattle.std.specs.FinMap.{get, remove}
+use Rattle.std.specs.FinMap.{remove}
 use Rattle.finite_maps.specs.Maps.{total}
 use Rattle.job_table.specs.declared.jobs.Job.{Job as TableJob}
 use Rattle.job_table.specs.Jobs.{JobTableValue}

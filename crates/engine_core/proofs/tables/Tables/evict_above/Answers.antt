@@ -1,15 +1,14 @@
-use Rattle.std.proofs.Common.{◌≡◌, ℕ, ◌-◌, ◌≤◌, Bool, true, false, Some, length, map, take, refl, ap, sym, subst, ◌∙◌}
-use Rattle.std.specs.Prelude.{IsSome, slice_get}
+use Rattle.std.proofs.Common.{◌≡◌, ℕ, ◌≤◌, Bool, Some, length, ap, sym, subst, ◌∙◌}
 use Rattle.std.specs.FinMap.{get}
 use Rattle.finite_maps.specs.Maps.{map_values}
 use Rattle.memory_cache.specs.Cache.{CacheValue, number_in, size_in, is_above, is_over, left_after}
-use Rattle.engine_world.specs.World.{Resources, World}
+use Rattle.engine_world.specs.World.{World}
 use Rattle.engine_world.specs.Places.{occurrences}
 use Rattle.engine_world.specs.Moves.{to_pool, shrink_cache}
 use Rattle.engine_core.specs.declared.tables.Tables.TheInside.{Inside}
 use Rattle.engine_core.specs.Releasing.{AreCached}
 use Rattle.engine_core.specs.TablesView.{resource_in, world_of, AreJoined}
-use Rattle.engine_core.proofs.Shrinking.{recached, left_sizes, eldest_item, left_numbers, nothing_left, above_is, over_is, within_above, within_over, none_shrinks, IsEldest, eldest_there, eldest_once, eldest_shrinks, eldest_cached, evicted}
+use Rattle.engine_core.proofs.Shrinking.{recached, left_sizes, eldest_item, left_numbers, nothing_left, above_is, within_above, none_shrinks, IsEldest, eldest_there, eldest_once, eldest_shrinks, eldest_cached, evicted}
 use Rattle.engine_core.proofs.tables.Tables.evict_above.Goals as goal
 
 -- what is given up is the eldest

@@ -3,7 +3,6 @@ use Rattle.std.specs.Prelude.{is_some}
 use Rattle.std.specs.FinMap.{get}
 use Rattle.std.specs.FinSet as set
 use Rattle.active_resources.specs.Actives.{ActiveValue}
-use Rattle.engine_resource.specs.Resource.{ResourceValue}
 use Rattle.engine_world.specs.World.{Resource, World}
 use Rattle.engine_world.specs.Moves.{to_pool, to_cache, retire}
 use Rattle.engine_core.specs.declared.tables.Tables.TheInside.{Inside}

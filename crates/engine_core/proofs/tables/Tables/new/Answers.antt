@@ -1,4 +1,4 @@
-use Rattle.std.proofs.Common.{vec_len, ◌≡◌, ℕ, ◌+◌, List, [], ◌∷◌, length, map, refl, ap, sym, subst, ◌∙◌, arith}
+use Rattle.std.proofs.Common.{vec_len, ◌≡◌, [], length, map, ap, sym, subst, ◌∙◌, arith}
 use Rattle.std.specs.Prelude.{false, replicate}
 use Rattle.std.specs.Ordering.{nat_cmp}
 use Rattle.std.specs.FinMap.{get, empty, get-empty}
@@ -6,14 +6,12 @@ use Rattle.std.specs.FinSet as set
 use Rattle.std.proofs.lemmas.List.{length-replicate}
 use Rattle.finite_maps.specs.Maps.{total, map_values}
 use Rattle.finite_maps.specs.MapLaws.{not_Some}
-use Rattle.engine_resource.specs.Resource.{ResourceValue}
 use Rattle.resource_table.specs.Resources.{ResourceTableValue}
 use Rattle.load_table.specs.Loads.{LoadsValue}
 use Rattle.load_cause.specs.declared.causes.Cause.{Cause}
 use Rattle.job_table.specs.Jobs.{JobTableValue}
 use Rattle.active_resources.specs.Actives.{ActiveValue}
 use Rattle.memory_cache.specs.Cache.{CacheValue, number_in}
-use Rattle.bitmap_pool.specs.Pool.{PoolValue}
 use Rattle.bitmap_pool.specs.Numbered.{numbered}
 use Rattle.engine_world.specs.World.{Job, Jobs, Limits, none_begun, opening}
 use Rattle.engine_world.specs.Moves.{table_job, table_jobs}

@@ -1,4 +1,4 @@
-use Rattle.std.proofs.Common.{◌≡◌, ℕ, Some, refl, sym, subst}
+use Rattle.std.proofs.Common.{sym, subst}
 use Rattle.bitmap_kind.specs.Picture.{BitmapValue}
 use Rattle.bitmap_pool.specs.Pool.{Picked, PoolValue, picked_from}
 use Rattle.bitmap_pool.specs.Numbered.{numbered}

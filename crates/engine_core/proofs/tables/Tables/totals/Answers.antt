@@ -1,11 +1,10 @@
-use Rattle.std.proofs.Common.{◌≡◌, ℕ, ◌+◌, ◌-◌, ◌<◌, ◌≤◌, length, map, ap, sym, ◌∙◌, arith}
-use Rattle.std.specs.FinMap.{len}
+use Rattle.std.proofs.Common.{◌≡◌, ◌+◌, ◌-◌, length, map, ap, ◌∙◌, arith}
 use Rattle.bitmap_pool.specs.Pool.{pool_count}
 use Rattle.bitmap_pool.specs.Numbered.{numbered}
 use Rattle.memory_cache.specs.Cache.{number_in}
-use Rattle.engine_world.specs.Balance.{held_count, out_count, kept_count, totals}
+use Rattle.engine_world.specs.Balance.{held_count, kept_count, totals}
 use Rattle.engine_core.specs.TablesView.{world_of}
-use Rattle.engine_core.proofs.Counted.{Counted, counted}
+use Rattle.engine_core.proofs.Counted.{counted}
 use Rattle.engine_core.proofs.tables.Tables.totals.Goals as goal
 
 pub overflow_sub-held : goal.overflow_sub-held
