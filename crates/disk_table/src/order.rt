@@ -15,7 +15,7 @@ use std::marker::Model;
 use std::num::NonZeroUsize;
 
 // How many keys there may be.
-const MOST_KEYS: usize = 16_400;
+pub const MOST_KEYS: usize = 16_400;
 
 /// Keys with the lengths of their values, in order of use. Contracts see the entries, the eldest first.
 #[derive(Drop)]

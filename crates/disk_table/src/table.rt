@@ -5,7 +5,7 @@ ghost use Rattle.disk_table.specs.UseOrder.{IsOnce, IsShort, is_known, size_of};
 ghost use Rattle.disk_table.specs.Table.{no_entries, key_in, counted, has_room_for, after_line, edit_of, is_under_edit, free_edit, key_of_edit, is_full_for, clean_length, opened, closed, touched, forgotten, keys_in, eldest_closed, eldest_over, is_due};
 
 use crate::edits::Edits;
-use crate::order::{Keys, UseOrder};
+use crate::order::{Keys, MOST_KEYS, UseOrder};
 use faults::NoMemory;
 use journal_lines::{Key, Line};
 use std::alloc::Global;
@@ -111,6 +111,20 @@ impl DiskTable {
         ensures known { IsSome result → is_known key.now self.now.entries ≡ true }
     {
         self.edits.of(key)
+    }
+
+    /// Whether there is no room for an edit of the key, which is not under edit: 16 edits are open, or there are 16,400 keys and
+    /// this one is new.
+    pub fn is_full_for(&self, key: &Key) -> bool
+        ensures { result ≡ is_full_for key.now self.now }
+    {
+        if self.edits.of(key).is_some() {
+            return false;
+        }
+        if self.edits.free().is_none() {
+            return true;
+        }
+        self.order.find(key).is_none() && self.order.len() >= MOST_KEYS
     }
 
     /// Begins an edit of the key, and answers the least number that no open edit has. The key is the most recent and keeps
