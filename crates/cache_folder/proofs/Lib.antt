@@ -1,0 +1,14 @@
+pub mod Allowed
+pub mod Apart
+pub mod Calls
+pub mod Edits
+pub mod Folders
+pub mod Journaled
+pub mod Kept
+pub mod Lists
+pub mod Mapped
+pub mod NewJournal
+pub mod NewText
+pub mod OnTheWay
+pub mod Openings
+pub mod Runs

@@ -1,0 +1,32 @@
+use Rattle.std.proofs.Common.{ℕ, List, refl, ap, subst, is_ok, IsSome, is_some}
+use Rattle.std.specs.FinMap.{get}
+use Rattle.outside.specs.Files.{Changes, deleted}
+use Rattle.cache_folder.specs.Offered.{journal_name}
+use Rattle.cache_folder.specs.Tables.{kept}
+use Rattle.cache_folder.proofs.Runs.{one, two, two_ok, at_middle, known_back}
+use Rattle.cache_folder.proofs.Calls.{remove_here, remove_gone, gone_says, remove_between, remove_images, remove_sound, remove_list}
+use Rattle.cache_folder.proofs.steps.remove.Goals as goal
+
+pub returns-in_err-delete-clause-ways : goal.returns-in_err-delete-clause-ways
+returns-in_err-delete-clause-ways g c = λ h e. one _ _ h _ _ _ e (subst (λ (n : List ℕ). Changes (deleted n) (g.F.Files.history c.args.files.now) (g.F.Files.history c.delete.new.self) c.delete.result) c.value-value.ensures.name c.delete.ensures.files) (remove_here (record { text = c.text_is_its_lines.ensures.text; unbroken = c.text_is_its_lines.ensures.unbroken }) h.held (kept c.args.table.now) c.args.key.now (c.requires.sound h e) c.value-value.ensures.key) (remove_gone (record { text = c.text_is_its_lines.ensures.text; unbroken = c.text_is_its_lines.ensures.unbroken }) h.held (kept c.args.table.now) c.args.key.now (c.requires.sound h e) c.value-value.ensures.key)
+
+pub returns-in_err-delete-clause-known : goal.returns-in_err-delete-clause-known
+returns-in_err-delete-clause-known g c = λ k e. known_back _ _ _ _ c.delete.ensures.files k e
+
+pub add_line-requires-clause-journal : goal.add_line-requires-clause-journal
+add_line-requires-clause-journal g c = λ k e'. at_middle (λ d. IsSome (get d journal_name)) _ _ _ _ (subst (λ (n : List ℕ). Changes (deleted n) (g.F.Files.history c.args.files.now) (g.F.Files.history c.delete.new.self) c.delete.result) c.value-value.ensures.name c.delete.ensures.files) (ap is_ok c.in_ok-delete.was) (λ h e. ap is_some (gone_says (record { text = c.text_is_its_lines.ensures.text; unbroken = c.text_is_its_lines.ensures.unbroken }) h.held (kept c.args.table.now) c.args.key.now (c.requires.sound h e) c.value-value.ensures.key _ refl).text) k e'
+
+pub returns-clause-ways : goal.returns-clause-ways
+returns-clause-ways g c = λ h e. two _ _ _ h _ _ _ _ _ e (subst (λ (n : List ℕ). Changes (deleted n) (g.F.Files.history c.args.files.now) (g.F.Files.history c.delete.new.self) c.delete.result) c.value-value.ensures.name c.delete.ensures.files) (ap is_ok c.in_ok-delete.was) c.add_line.ensures.files
+    (remove_here (record { text = c.text_is_its_lines.ensures.text; unbroken = c.text_is_its_lines.ensures.unbroken }) h.held (kept c.args.table.now) c.args.key.now (c.requires.sound h e) c.value-value.ensures.key) (remove_gone (record { text = c.text_is_its_lines.ensures.text; unbroken = c.text_is_its_lines.ensures.unbroken }) h.held (kept c.args.table.now) c.args.key.now (c.requires.sound h e) c.value-value.ensures.key) (remove_between (record { text = c.text_is_its_lines.ensures.text; unbroken = c.text_is_its_lines.ensures.unbroken }) h.held (kept c.args.table.now) c.args.key.now (c.requires.sound h e) c.value-value.ensures.key _ refl) (remove_images (record { text = c.text_is_its_lines.ensures.text; unbroken = c.text_is_its_lines.ensures.unbroken }) h.held (kept c.args.table.now) c.args.key.now (c.requires.sound h e) c.value-value.ensures.key _ refl)
+
+pub returns-clause-ok : goal.returns-clause-ok
+returns-clause-ok g c = λ ok h e. record {
+  history = _;
+  holds = two_ok _ _ h _ _ _ _ _ e (subst (λ (n : List ℕ). Changes (deleted n) (g.F.Files.history c.args.files.now) (g.F.Files.history c.delete.new.self) c.delete.result) c.value-value.ensures.name c.delete.ensures.files) (ap is_ok c.in_ok-delete.was) c.add_line.ensures.files ok;
+  sound = remove_sound (record { text = c.text_is_its_lines.ensures.text; unbroken = c.text_is_its_lines.ensures.unbroken }) h.held (kept c.args.table.now) c.args.key.now (c.requires.sound h e) c.value-value.ensures.key _ refl;
+  list = remove_list (record { text = c.text_is_its_lines.ensures.text; unbroken = c.text_is_its_lines.ensures.unbroken }) h.held (kept c.args.table.now) c.args.key.now (c.requires.sound h e) c.value-value.ensures.key _ refl;
+}
+
+pub returns-clause-known : goal.returns-clause-known
+returns-clause-known g c = λ k e. let mid = known_back _ _ _ _ c.add_line.ensures.files k e in known_back _ _ _ _ c.delete.ensures.files mid.0 mid.1

@@ -1,0 +1,22 @@
+use Rattle.std.proofs.Common.{None, sym, ap, ◌∙◌}
+use Rattle.disk_table.specs.UseOrder.{without}
+use Rattle.disk_table.specs.Table.{TableValue, edit_of}
+use Rattle.cache_folder.specs.Tables.{CacheTableValue, kept}
+use Rattle.cache_folder.proofs.Kept.{open_number, none_after, others_after, dropped_after, forgotten_after}
+use Rattle.cache_folder.proofs.table.CacheTable.forget.Goals as goal
+
+pub close_edit-requires-clause-open : goal.close_edit-requires-clause-open
+close_edit-requires-clause-open c = open_number c.self.inside.table c.self.inside.written c.args.self.now c.args.key.now c.in-Some.number c.self.view_is (ap (λ (t : CacheTableValue). edit_of c.args.key.now t.table.edits) (sym c.self.view_is) ∙ sym c.edit_of.ensures.number ∙ c.in-Some.is)
+
+pub returns-in-Some-clause-kept : goal.returns-in-Some-clause-kept
+returns-in-Some-clause-kept c = dropped_after c.self.inside.table c.self.inside.written c.args.self.now c.close_edit.new.self c.args.key.now c.in-Some.number c.self.view_is (ap (λ (t : CacheTableValue). edit_of c.args.key.now t.table.edits) (sym c.self.view_is) ∙ sym c.edit_of.ensures.number ∙ c.in-Some.is) c.close_edit.ensures.table c.close_edit.ensures.free
+
+pub returns-in-Some-clause-closed : goal.returns-in-Some-clause-closed
+returns-in-Some-clause-closed c = none_after c.self.inside.table c.self.inside.written c.args.self.now c.close_edit.new.self c.args.key.now c.in-Some.number None c.self.view_is (ap (λ (t : CacheTableValue). edit_of c.args.key.now t.table.edits) (sym c.self.view_is) ∙ sym c.edit_of.ensures.number ∙ c.in-Some.is) c.close_edit.ensures.table c.close_edit.ensures.free
+
+pub returns-in-Some-clause-others : goal.returns-in-Some-clause-others
+returns-in-Some-clause-others c = others_after c.self.inside.table c.self.inside.written c.args.self.now c.close_edit.new.self c.args.key.now c.in-Some.number None c.self.view_is (ap (λ (t : CacheTableValue). edit_of c.args.key.now t.table.edits) (sym c.self.view_is) ∙ sym c.edit_of.ensures.number ∙ c.in-Some.is) c.close_edit.ensures.table c.close_edit.ensures.free
+
+pub returns-in-None-clause-kept : goal.returns-in-None-clause-kept
+returns-in-None-clause-kept c = ap (λ (t : TableValue). kept (record { table = t; written = c.self.inside.written })) c.forget.ensures
+    ∙ forgotten_after c.self.inside.table c.self.inside.written c.args.key.now ∙ ap (λ (t : CacheTableValue). without c.args.key.now (kept t)) c.self.view_is

@@ -1,0 +1,14 @@
+//! What a folder offers as a disk cache, and at each moment at which a stop may leave it; and the steps on its files, over any
+//! files, each call of which may fail.
+#![tactic(auto)]
+
+mod laws;
+mod names;
+pub mod rebuild;
+pub mod steps;
+mod table;
+#[cfg(test)]
+mod worked;
+
+pub use laws::{calls_in_turn, calls_keep_others, line_is_written_at_once, start_offers_the_same};
+pub use table::CacheTable;
