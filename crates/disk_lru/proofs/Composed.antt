@@ -1,0 +1,176 @@
+-- A call, with the rebuilds before it and behind it.
+use Rattle.std.proofs.Common.{◌≡◌, ℕ, Bool, List, [], ◌∷◌, Some, refl, sym, ap, subst, ◌∙◌, inl, inr}
+use Rattle.std.specs.FinMap.{get}
+use Rattle.outside.specs.Files.{Folder, FolderHistory, passed_through}
+use Rattle.disk_table.specs.UseOrder.{without}
+use Rattle.cache_folder.specs.Offered.{edit_name, offered}
+use Rattle.cache_folder.specs.Steps.{Drop, all_stepped, offers}
+use Rattle.cache_folder.specs.Images.{IfKnown, WasKnown, Runs, OffersEither}
+use Rattle.cache_folder.specs.Sound.{listed, SameEntries, Way, Done, RebuildWay}
+use Rattle.cache_folder.specs.Allowed.{Pass, IsWithin, values_of, handed_by}
+use Rattle.cache_folder.specs.Laws.{CacheLaws}
+use Rattle.disk_lru.specs.State.{CacheState, entries, list_of}
+use Rattle.disk_lru.specs.Calls.{Offers, Steps, StaysWithin, CallOn}
+use Rattle.disk_lru.specs.inside.Rebuilds.{Rebuilds}
+use Rattle.disk_lru.proofs.Runs.{run_none, run_more, run_weaken, run_has, known_more, same_some}
+
+module _ (laws : CacheLaws) where
+  -- ---- a rebuild
+
+  module _ (old new : CacheState) (r : Rebuilds old new) where
+    pub same_entries : (h k : FolderHistory) → old.history ≡ Some h → new.history ≡ Some k → SameEntries h.held k.held
+    same_entries h k e e' = (run_has _ h k new.history (r.moments h e) e').1
+
+    pub rebuilt_list : (h k : FolderHistory) → old.history ≡ Some h → new.history ≡ Some k → list_of k.held new ≡ list_of h.held old
+    rebuilt_list h k e e' = ap (listed k.held) r.entries_are ∙ laws.entries_listed h.held k.held (entries old) (same_entries h k e e')
+
+    pub list_moments : (h : FolderHistory) → old.history ≡ Some h → Offers h.held old → Runs (λ c. offered c ≡ offers (list_of h.held old)) h new.history
+    list_moments h e o = run_weaken (RebuildWay h.held (entries old)) (λ c. offered c ≡ offers (list_of h.held old)) h new.history
+        (λ c w. elim w.0 as (λ _. offered c ≡ offers (list_of h.held old)) [ inl x ↦ x ∙ o | inr x ↦ x ]) (r.moments h e)
+
+    pub rebuilt_offers : (h k : FolderHistory) → old.history ≡ Some h → new.history ≡ Some k → Offers h.held old → Offers k.held new
+    rebuilt_offers h k e e' o = run_has _ h k new.history (list_moments h e o) e' ∙ ap offers (sym (rebuilt_list h k e e'))
+
+    pub rebuilt_within : (h : FolderHistory) → old.history ≡ Some h → (allowed : List ℕ × List ℕ → Bool) → IsWithin allowed h.held (entries old) → StaysWithin allowed h new
+    rebuilt_within h e allowed w =
+        let moments : Runs (λ c. Pass allowed (offered c)) h new.history = run_weaken (RebuildWay h.held (entries old)) (λ c. Pass allowed (offered c)) h new.history
+        (λ c x. elim x.0 as (λ _. Pass allowed (offered c)) [
+          | inl y ↦ subst (Pass allowed) (sym y) w.offers_allowed
+          | inr y ↦ subst (Pass allowed) (sym y) (laws.offers_allowed allowed (list_of h.held old) w.keeps_allowed)
+        ]) (r.moments h e) in
+        record {
+          moments = moments;
+          within = λ k e'. record {
+            offers_allowed = run_has _ h k new.history moments e';
+            keeps_allowed = subst (Pass allowed) (ap values_of (sym (rebuilt_list h k e e'))) w.keeps_allowed;
+          };
+        }
+
+  -- ---- a call on the files, without rebuilds
+
+  -- each moment offers the list before the steps that were meant or after them, and other keys' files are as they were
+  abbrev pub MeantWays : List ℕ → Steps → CacheState → CacheState → Type 0
+  MeantWays key meant old new = IfKnown old.history (λ h. Runs (Way key h.held (list_of h.held old) (all_stepped (list_of h.held old) (meant h.held))) h new.history)
+
+  module _ (key : List ℕ) (meant made : Steps) (old new : CacheState)
+      (known : WasKnown old.history new.history) (ways : MeantWays key meant old new)
+      (list : IfKnown old.history (λ h. IfKnown new.history (λ k. list_of k.held new ≡ all_stepped (list_of h.held old) (made h.held))))
+      (hands : (f : Folder) (allowed : List ℕ × List ℕ → Bool) → Pass allowed (handed_by (meant f)) → Pass allowed (handed_by (made f))) where
+    pub call_by : CallOn key meant made old new
+    call_by = record {
+      known = known;
+      list = list;
+      moments = λ h e o. run_weaken _ _ h new.history (λ c w. w.0) (ways h e);
+      allows = λ h e allowed w pass.
+          let moments : Runs (λ c. Pass allowed (offered c)) h new.history = run_weaken _ (λ c. Pass allowed (offered c)) h new.history
+          (λ c x. elim x.0 as (λ _. Pass allowed (offered c)) [
+            | inl y ↦ subst (Pass allowed) (sym y) (laws.offers_allowed allowed (list_of h.held old) w.keeps_allowed)
+            | inr y ↦ subst (Pass allowed) (sym y) (laws.offers_allowed allowed (all_stepped (list_of h.held old) (meant h.held)) (laws.steps_allowed allowed (list_of h.held old) (meant h.held) w.keeps_allowed pass))
+          ]) (ways h e) in
+          record {
+            moments = moments;
+            within = λ k e'. record {
+              offers_allowed = run_has _ h k new.history moments e';
+              keeps_allowed = subst (Pass allowed) (ap values_of (sym (list h e k e'))) (laws.steps_allowed allowed (list_of h.held old) (made h.held) w.keeps_allowed (hands h.held allowed pass));
+            };
+          };
+      others = λ h e k e' other ne. laws.others_edits key other h.held k.held (run_has _ h k new.history (ways h e) e').1 ne;
+    }
+
+  pub call_done : (key : List ℕ) (meant : Steps) (old new : CacheState) → WasKnown old.history new.history → MeantWays key meant old new
+      → IfKnown old.history (λ h. Done new.history (entries new) (all_stepped (list_of h.held old) (meant h.held))) → CallOn key meant meant old new
+  call_done key meant old new known ways does = call_by key meant meant old new known ways
+      (λ h e k e'. let d = does h e in subst (λ (m : FolderHistory). listed m.held (entries new) ≡ all_stepped (list_of h.held old) (meant h.held)) (same_some _ _ (sym d.holds ∙ e')) d.list)
+      (λ f allowed pass. pass)
+
+  pub call_failed : (key : List ℕ) (meant : Steps) (old new : CacheState) → WasKnown old.history new.history → MeantWays key meant old new
+      → entries new ≡ without key (entries old) → CallOn key meant (λ f. Drop key ∷ []) old new
+  call_failed key meant old new known ways forgets = call_by key meant (λ f. Drop key ∷ []) old new known ways
+      (λ h e k e'. ap (listed k.held) forgets ∙ laws.others_listed key h.held k.held (entries old) (run_has _ h k new.history (ways h e) e').1)
+      (λ f allowed pass. tt)
+
+  -- ---- a rebuild that failed, and the key forgotten
+
+  pub call_unready : (key : List ℕ) (meant : Steps) (old mid new : CacheState) → Rebuilds old mid → new.history ≡ mid.history → entries new ≡ without key (entries mid)
+      → CallOn key meant (λ f. Drop key ∷ []) old new
+  call_unready key meant old mid new r same forgets = record {
+    known = λ k e. r.known k (sym same ∙ e);
+    list = dropped;
+    moments = λ h e o. subst (Runs _ h) (sym same) (run_weaken _ _ h mid.history (λ c x. inl x) (list_moments old mid r h e o));
+    allows = λ h e allowed w pass.
+        let s = rebuilt_within old mid r h e allowed w in
+        record {
+          moments = subst (Runs _ h) (sym same) s.moments;
+          within = λ k e'. record {
+            offers_allowed = (s.within k (sym same ∙ e')).offers_allowed;
+            keeps_allowed = subst (Pass allowed) (ap values_of (sym (dropped h e k e'))) (laws.steps_allowed allowed (list_of h.held old) (Drop key ∷ []) w.keeps_allowed tt);
+          };
+        };
+    others = λ h e k e' other ne. laws.entries_edits other h.held k.held (same_entries old mid r h k e (sym same ∙ e'));
+  } where
+    dropped : (h : FolderHistory) → old.history ≡ Some h → (k : FolderHistory) → new.history ≡ Some k → list_of k.held new ≡ without key (list_of h.held old)
+    dropped h e k e' = ap (listed k.held) forgets ∙ laws.others_listed key k.held k.held (entries mid) (λ name j v x. refl)
+        ∙ ap (without key) (rebuilt_list old mid r h k e (sym same ∙ e'))
+
+  -- ---- a rebuild, and then a call
+
+  pub call_ready : (key : List ℕ) (meant made : Steps) (old mid new : CacheState) → Rebuilds old mid → ((f g : Folder) → SameEntries f g → meant g ≡ meant f) → ((f g : Folder) → SameEntries f g → made g ≡ made f)
+      → CallOn key meant made mid new → CallOn key meant made old new
+  call_ready key meant made old mid new r stable stable' x = record {
+    known = known_more old.history mid.history new.history r.known x.known;
+    list = λ h e k e'. let m = x.known k e' in x.list m.0 m.1 k e' ∙ (λ i. all_stepped (rebuilt_list old mid r h m.0 e m.1 i) (stable' h.held m.0.held (same_entries old mid r h m.0 e m.1) i));
+    moments = λ h e o.
+        let either : Folder → Type 0 = OffersEither (list_of h.held old) (all_stepped (list_of h.held old) (meant h.held)) in
+        let first : Runs either h mid.history = run_weaken (λ c. offered c ≡ offers (list_of h.held old)) either h mid.history (λ c y. inl y) (list_moments old mid r h e o) in
+        let m : FolderHistory = passed_through first.contents h in
+        let same = rebuilt_list old mid r h m e first.after_is in
+        let steps = stable h.held m.held (same_entries old mid r h m e first.after_is) in
+        run_more either h mid.history new.history first
+        (subst (λ p. Runs p m new.history) (λ i c. OffersEither (same i) (all_stepped (same i) (steps i)) c) (x.moments m first.after_is (rebuilt_offers old mid r h m e first.after_is o)));
+    allows = λ h e allowed w pass.
+        let s = rebuilt_within old mid r h e allowed w in
+        let m : FolderHistory = passed_through s.moments.contents h in
+        let steps = stable h.held m.held (same_entries old mid r h m e s.moments.after_is) in
+        let t = x.allows m s.moments.after_is allowed (s.within m s.moments.after_is) (subst (λ l. Pass allowed (handed_by l)) (sym steps) pass) in
+        record { moments = run_more _ h mid.history new.history s.moments t.moments; within = t.within };
+    others = λ h e k e' other ne. let m = x.known k e' in x.others m.0 m.1 k e' other ne ∙ laws.entries_edits other h.held m.0.held (same_entries old mid r h m.0 e m.1);
+  }
+
+  -- ---- a call, and then a rebuild
+
+  pub call_rebuilt : (key : List ℕ) (steps : Steps) (old mid new : CacheState) → CallOn key steps steps old mid → Rebuilds mid new → CallOn key steps steps old new
+  call_rebuilt key steps old mid new x r = record {
+    known = known_more old.history mid.history new.history x.known r.known;
+    list = λ h e k e'. let m = r.known k e' in rebuilt_list mid new r m.0 k m.1 e' ∙ x.list h e m.0 m.1;
+    moments = λ h e o.
+        let first = x.moments h e o in
+        let m : FolderHistory = passed_through first.contents h in
+        run_more _ h mid.history new.history first
+        (run_weaken (RebuildWay m.held (entries mid)) _ m new.history (λ c w. elim w.0 as (λ _. OffersEither (list_of h.held old) (all_stepped (list_of h.held old) (steps h.held)) c) [
+          | inl y ↦ elim first.here as (λ _. OffersEither (list_of h.held old) (all_stepped (list_of h.held old) (steps h.held)) c) [ inl z ↦ inl (y ∙ z) | inr z ↦ inr (y ∙ z) ]
+          | inr y ↦ inr (y ∙ ap offers (x.list h e m first.after_is))
+        ]) (r.moments m first.after_is));
+    allows = λ h e allowed w pass.
+        let s = x.allows h e allowed w pass in
+        let m : FolderHistory = passed_through s.moments.contents h in
+        let t = rebuilt_within mid new r m s.moments.after_is allowed (s.within m s.moments.after_is) in
+        record { moments = run_more _ h mid.history new.history s.moments t.moments; within = t.within };
+    others = λ h e k e' other ne. let m = r.known k e' in laws.entries_edits other m.0.held k.held (same_entries mid new r m.0 k m.1 e') ∙ x.others h e m.0 m.1 other ne;
+  }
+
+  -- ---- no call at all, and a rebuild alone
+
+  call_none : (key : List ℕ) (s : CacheState) → CallOn key (λ f. []) (λ f. []) s s
+  call_none key s = record {
+    known = λ k e. (k, e);
+    list = λ h e k e'. ap (λ (m : FolderHistory). list_of m.held s) (same_some k h (sym e' ∙ e));
+    moments = λ h e o. run_none _ h s.history e (inl o);
+    allows = λ h e allowed w pass. record {
+      moments = run_none (λ c. Pass allowed (offered c)) h s.history e w.offers_allowed;
+      within = λ k e'. subst (λ (m : FolderHistory). IsWithin allowed m.held (entries s)) (same_some h k (sym e ∙ e')) w;
+    };
+    others = λ h e k e' other ne. ap (λ (m : FolderHistory). get m.held (edit_name other)) (same_some k h (sym e' ∙ e));
+  }
+
+  pub call_rebuild : (key : List ℕ) (old new : CacheState) → Rebuilds old new → CallOn key (λ f. []) (λ f. []) old new
+  call_rebuild key old new r = call_rebuilt key (λ f. []) old old new (call_none key old) r

@@ -1,0 +1,32 @@
+use Rattle.std.proofs.Common.{[], ◌∷◌, refl, sym, ap, ◌∙◌, is_ok}
+use Rattle.cache_folder.specs.Steps.{Drop}
+use Rattle.cache_folder.specs.Tables.{kept}
+use Rattle.disk_lru.specs.State.{CacheState}
+use Rattle.disk_lru.proofs.Runs.{run_has}
+use Rattle.disk_lru.proofs.Fields.{keeps_failed, forgets_by, closes_by, keeps_sound, sound_done, done_by, failed_by}
+use Rattle.disk_lru.proofs.cache.DiskLru.remove_now.Goals as goal
+
+pub remove-requires : goal.remove-requires
+remove-requires g c = record { sound = λ h e. (c.self.invariant h e).1 (ap (λ (s : CacheState). s.due) c.self.view_is ∙ c.requires.ready) }
+
+pub invariant_of-self : goal.invariant_of-self
+invariant_of-self g c = keeps_sound (g.F.Files.history c.self.inside.files) (g.F.Files.history c.remove.new.files) _ (kept c.forget.new.self) c.self.inside.due c.remove.ensures.known (λ h e k e'. sound_done (g.F.Files.history c.remove.new.files) _ _ k (c.remove.ensures.ok (ap is_ok c.in-Ok.is) h e) e') c.forget.ensures.kept
+
+pub invariant_of-self-in-Err : goal.invariant_of-self-in-Err
+invariant_of-self-in-Err g c = keeps_failed c.calls_keep_others.ensures c.args.key.now (g.F.Files.history c.self.inside.files) (g.F.Files.history c.remove.new.files) (kept c.self.inside.table) (kept c.forget-in-Err.new.self) c.remove.ensures.known (λ h e. (c.self.invariant h e).0)
+    (λ h e k e'. (run_has _ h k (g.F.Files.history c.remove.new.files) (c.remove.ensures.ways h e) e').1) c.forget-in-Err.ensures.kept
+
+pub returns-in-Ok-clause-call_ok : goal.returns-in-Ok-clause-call_ok
+returns-in-Ok-clause-call_ok g c = λ ok. done_by c.calls_keep_others.ensures _ _ _ c.args.key.now (λ f. Drop c.args.key.now ∷ []) c.self.view_is c.remove.ensures.known c.remove.ensures.ways _ (sym c.forget.ensures.kept) (c.remove.ensures.ok (ap is_ok c.in-Ok.is))
+
+pub returns-in-Err-clause-err : goal.returns-in-Err-clause-err
+returns-in-Err-clause-err g c = λ failed. forgets_by _ _ _ c.args.key.now c.self.view_is c.forget-in-Err.ensures.kept c.forget-in-Err.ensures.closed c.forget-in-Err.ensures.others refl
+
+pub returns-in-Err-clause-call_err : goal.returns-in-Err-clause-call_err
+returns-in-Err-clause-call_err g c = λ failed. failed_by c.calls_keep_others.ensures _ _ _ c.args.key.now (λ f. Drop c.args.key.now ∷ []) c.self.view_is c.remove.ensures.known c.remove.ensures.ways c.forget-in-Err.ensures.kept
+
+pub returns-in-Ok-clause-edit : goal.returns-in-Ok-clause-edit
+returns-in-Ok-clause-edit g c = closes_by _ _ _ c.args.key.now c.self.view_is c.forget.ensures.closed c.forget.ensures.others
+
+pub returns-in-Err-clause-edit : goal.returns-in-Err-clause-edit
+returns-in-Err-clause-edit g c = closes_by _ _ _ c.args.key.now c.self.view_is c.forget-in-Err.ensures.closed c.forget-in-Err.ensures.others

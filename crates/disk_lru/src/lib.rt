@@ -1,0 +1,11 @@
+//! A disk cache with a journal, after DiskLruCache: entries of a key and bytes on any files, in order of use, under a maximum.
+//! Whatever call fails, and wherever the process stops, the files offer only entries that were committed whole.
+#![tactic(auto)]
+
+mod cache;
+mod edit;
+mod refusals;
+
+pub use cache::DiskLru;
+pub use edit::Edit;
+pub use refusals::{BeginRefused, DiskFault, RemoveRefused, StartRefused};
