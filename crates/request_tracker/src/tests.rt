@@ -91,6 +91,11 @@ fn place_of(alloc: Global, tracker: &Tracker<u64>, name: &[u8]) -> Result<Option
     Ok(tracker.find(&view))
 }
 
+fn can_load(alloc: Global, tracker: &Tracker<u64>, name: &[u8]) -> Result<bool, NoMemory> {
+    let view = Text::new(alloc, name)?;
+    Ok(tracker.can_load(&view))
+}
+
 fn act(tracker: &mut Tracker<u64>, act: Act, place: usize) -> Option<Order> {
     if place < tracker.count() {
         return Some(tracker.act(act, place));
@@ -360,6 +365,8 @@ fn views_are_at_most_so_many(rt: HostRuntime) -> Result<(), Fail> {
     let mut tracker = Tracker::new(alloc)?;
     load_many(alloc, &mut tracker, 4_096)?;
     assert_eq!(rt; tracker.count(), 4_096);
+    assert!(rt; !can_load(alloc, &tracker, b"a")?);
+    assert!(rt; can_load(alloc, &tracker, b"4095")?);
     assert_eq!(rt;
         load(alloc, &mut tracker, b"a", true)?,
         Err(ViewFault::TooMany)

@@ -80,6 +80,13 @@ impl<C: Copy> Tracker<C> {
         })
     }
 
+    /// Whether a load in the view is within the limit: the view is known, or there are fewer than 4,096.
+    pub fn can_load(&self, view: &Text) -> bool
+        ensures { result ≡ can_load view.now self.now }
+    {
+        self.views.get_index_of(view).is_some() || self.views.len() < MOST_VIEWS
+    }
+
     /// A load in the view, which is new or known. A load that is refused changes nothing.
     pub fn load(&mut self, alloc: Global, view: &Text, ask: Ask) -> Result<Order, ViewFault>
         ensures order { IfOk result (λ order. Some order ≡ load_order view.now ask self.old) }
