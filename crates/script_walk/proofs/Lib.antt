@@ -9,3 +9,6 @@ pub mod Realize
 pub mod Tracked
 pub mod ByPlace
 pub mod Totals
+pub mod NextGather
+pub mod Blames
+pub mod CachedBegins

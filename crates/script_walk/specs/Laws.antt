@@ -1,16 +1,21 @@
 -- The laws of the walk. They are this project's own.
-use Rattle.std.specs.Prelude.{◌≡◌, ℕ, ◌+◌, ◌≤◌, ◌⊎◌, List, [], ◌∷◌, ◌++◌, length, count_by, take, slice_get, ⊤, Some, None, Err, Result}
+use Rattle.std.specs.Prelude.{◌≡◌, ◌≢◌, ℕ, ◌+◌, ◌<◌, ◌≤◌, ◌⊎◌, Bool, true, false, List, [], ◌∷◌, ◌++◌, length, count_by, take, slice_get, ⊤, Some, None, Err, Result}
+use Rattle.std.specs.declared.option.Option.{Option}
+use Rattle.std.specs.List.{list_any}
 use Rattle.std.specs.Option.{option_map}
 use Rattle.outside.specs.Content.{Address}
 use Rattle.bitmap_kind.specs.Picture.{Picture}
 use Rattle.cache_key.specs.KeyBytes.{address_of}
 use Rattle.load_cause.specs.declared.causes.Cause.{Cause}
 use Rattle.load_cause.specs.declared.causes.Cause.TheVariants as causes
+use Rattle.script_lines.specs.declared.commands.Command.{Command}
+use Rattle.script_lines.specs.declared.commands.Command.TheVariants.{Load}
 use Rattle.script_lines.specs.Script.{Numbered}
-use Rattle.script_walk.specs.Walk.{Begin, Outcome, TraceEvent, Dropped, Begun, Ended, Trimmed, Printed, opening, names_of, then_step, walk, trace}
-use Rattle.script_walk.specs.Ends.{bad_command_from, bad_command}
+use Rattle.printed_lines.specs.Printed.{says_failed_source}
+use Rattle.script_walk.specs.Walk.{Begin, WalkView, Outcome, Stage, TraceEvent, Dropped, Begun, Ended, Trimmed, Printed, running, opening, names_of, then_step, walk, trace}
+use Rattle.script_walk.specs.Ends.{lines_in, bad_command_from, bad_command}
 use Rattle.script_walk.specs.Marks.{Marks, Mark, KeyResults, no_marks, cause_of, outcome_of, begins_in, same_address, failed_fetches}
-use Rattle.script_walk.specs.Orderly.{IsOrderly}
+use Rattle.script_walk.specs.Orderly.{IsOrderly, In}
 
 -- Each begin that came to its end came to this.
 abbrev pub EachEnd : (Begin → Result Picture Cause → Type 0) → List TraceEvent → Type 0
@@ -105,3 +110,51 @@ pub record IsMarkedWalk (results : KeyResults) (commands : List Numbered) (event
 abbrev pub RunsAreWalks : Type 0
 RunsAreWalks = (results : KeyResults) (outcome : Outcome) (commands : List Numbered)
     → EachEnd (IsAllowed results) (trace outcome commands) → IsMarkedWalk results commands (trace outcome commands)
+
+-- ---- ends at gathers
+
+-- A begin that runs was made after the last gather.
+abbrev pub IsCurrent : ℕ → Option Begin → Type 0
+IsCurrent gathers None = ⊤
+IsCurrent gathers (Some begin) = begin.gathers ≡ gathers
+
+abbrev pub AreCurrent : ℕ → List WalkView → Type 0
+AreCurrent gathers [] = ⊤
+AreCurrent gathers (v ∷ vs) = IsCurrent gathers (running v) × AreCurrent gathers vs
+
+-- A begin was made with so many gathers before it, and fewer than so many, and came to what the outcome says.
+abbrev pub IsEndBetween : Outcome → (from to : ℕ) → Begin → Result Picture Cause → Type 0
+IsEndBetween outcome from to begin result =
+    (from ≤ begin.gathers) × (begin.gathers < to) × (outcome begin ≡ result)
+
+-- Between a stage and the one that some commands lead to, just the begins came to their ends that were made between.
+pub record EndsBetween (outcome : Outcome) (s : Stage) (commands : List Numbered) : Type 0 where
+  pub current :
+      let after = (walk outcome s commands).stage in AreCurrent after.gathers after.views
+  pub later : s.gathers ≤ (walk outcome s commands).stage.gathers
+  pub ends : EachEnd (IsEndBetween outcome s.gathers (walk outcome s commands).stage.gathers)
+      (walk outcome s commands).events
+
+-- Each begin that comes to its end does so at the first gather after it.
+abbrev pub EndsAtNextGather : Type 0
+EndsAtNextGather = (outcome : Outcome) (s : Stage) (commands : List Numbered)
+    → AreCurrent s.gathers s.views → EndsBetween outcome s commands
+
+-- A line that says failed source is printed only where a begin came to that end.
+abbrev pub BlamesAreEnds : Type 0
+BlamesAreEnds = (outcome : Outcome) (commands : List Numbered)
+    → list_any says_failed_source (lines_in (trace outcome commands)) ≡ true
+    → source_failures (trace outcome commands) ≢ []
+
+-- ---- begins that ask the caches alone
+
+-- whether a command is a load that says `cached`
+abbrev pub says_cached : Command → Bool
+says_cached (Load view spec sized) = spec.cached
+says_cached command = false
+
+-- Where no load says `cached`, no begin does.
+abbrev pub NoneCached : Type 0
+NoneCached = (outcome : Outcome) (commands : List Numbered)
+    → list_any (λ first. says_cached first.command) commands ≡ false
+    → (begin : Begin) → In begin (begins_in (trace outcome commands)) → begin.spec.cached ≡ false

@@ -1,5 +1,5 @@
 // The laws of the walk, each as the contract of a function that does nothing.
-ghost use Rattle.script_walk.specs.Laws.{NoMarksNoFailures, EndsDecide, TracesAreOrderly, EndsAreBegun, StopsAtBadCommand, WalksGoOn, RunsAreWalks};
+ghost use Rattle.script_walk.specs.Laws.{NoMarksNoFailures, EndsDecide, TracesAreOrderly, EndsAreBegun, StopsAtBadCommand, WalksGoOn, RunsAreWalks, EndsAtNextGather, BlamesAreEnds, NoneCached};
 ghost use Rattle.script_walk.specs.Tracked.{TrackerMakesTheMoves};
 ghost use Rattle.script_walk.specs.ByPlace.{MovesGoByPlace};
 
@@ -48,4 +48,19 @@ pub fn a_tracker_makes_the_moves()
 /// A move of all views is one of the view at each place in turn, and a move of one view is one of the view at its place.
 pub fn moves_go_by_place()
     ensures { MovesGoByPlace }
+{}
+
+/// A begin that comes to its end does so at the first gather after it, and comes to what the outcome says.
+pub fn begins_end_at_the_next_gather()
+    ensures { EndsAtNextGather }
+{}
+
+/// No line blames the source unless a begin came to that end.
+pub fn blamed_sources_failed()
+    ensures { BlamesAreEnds }
+{}
+
+/// A begin says `cached` only where a load does.
+pub fn begins_are_cached_by_loads()
+    ensures { NoneCached }
 {}
