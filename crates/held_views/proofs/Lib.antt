@@ -1,0 +1,5 @@
+mod Orders
+mod Loads
+mod Ends
+mod Gathered
+mod Showing

@@ -1,0 +1,11 @@
+pub use Rattle.outside.specs.Causes
+pub use Rattle.outside.specs.Content
+pub use Rattle.cache_key.specs.Size
+pub use Rattle.request_tracker.specs.Moves
+pub use Rattle.script_walk.specs.Walk
+pub use Rattle.script_walk.specs.Tracked
+pub use Rattle.script_walk.specs.Laws
+pub mod Held
+pub mod Following
+pub mod Gathers
+pub mod inside
