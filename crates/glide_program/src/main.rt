@@ -3,7 +3,7 @@
 #![tactic(auto)]
 
 ghost use Rattle.std.specs.Prelude.{◌≡◌, ◌≢◌, ◌≤◌, [], Err, IfOk};
-ghost use Rattle.glide_run.specs.Ending.{IsOrStops};
+ghost use Rattle.glide_run.specs.Promise.{IsOrStops};
 
 use glide_run::glide_alone;
 use outside::{FolderSource, RealInput, RealSink};

@@ -1,309 +1,299 @@
--- The ends of a run.
-use Rattle.std.proofs.Common.{◌≡◌, ◌≢◌, inl, inr, ℕ, ◌+◌, ◌≤◌, ◌<◌, Bool, true, false, cond, ◌||◌, List, [], ◌∷◌, ◌++◌, length, Ok, Err, Result, Some, None, refl, sym, ap, subst, ◌∙◌, arith, append_assoc, append-nil}
-use Rattle.std.specs.Prelude.{⊤}
-use Rattle.std.specs.declared.option.Option.{Option}
+-- The promise of a whole run.
+use Rattle.std.proofs.Common.{◌≡◌, ◌≢◌, ℕ, ◌+◌, ◌<◌, ◌≤◌, Bool, true, false, cond, List, [], ◌∷◌, ◌++◌, length, filter, count_by, Some, None, Option, Ok, Err, Result, refl, ap, sym, subst, ◌∙◌, inl, inr, append-nil, arith}
+use Rattle.std.specs.Prelude.{⊤, ◌||◌, ◌&&◌, ◌⊎◌, not, IfSome, IfOk, IsOk, OnSome}
 use Rattle.std.specs.List.{list_any}
 use Rattle.std.specs.Str.{bytes_eq}
-use Rattle.std.proofs.lemmas.Slice.Eq.{bytes_eq-Decides}
+use Rattle.std.specs.Io.KnownBytes.{Appends}
+use Rattle.std.proofs.lemmas.List.Sums.{sum_by-append}
 use Rattle.bitmap_kind.specs.Picture.{Picture}
-use Rattle.outside.specs.Content.{Address, Contents}
-use Rattle.glide_run.specs.declared.run.Stop.{Stop}
-use Rattle.glide_run.specs.declared.run.Ended.{Ended}
-use Rattle.cache_key.specs.Key.{Key}
-use Rattle.glide_run.specs.Script.{Command, Nothing, Bad, Load, Dump, Show}
 use Rattle.image_format.specs.declared.refusal.Refusal.{Refusal}
-use Rattle.image_format.specs.Pictures.{picture_of}
-use Rattle.glide_run.specs.Views.{State, Running, Complete, Failed, Seen, decoded, fetched, names_of, has_name, with_name, named, put_view}
-use Rattle.glide_run.specs.Printed.{Form, Pixels, Digest, PrintedLine, lines_as, lines_text, run_text, says_failed, says_failed_source, blames_source}
-use Rattle.glide_run.specs.Walk.{bad_line_from, bad_line, walk, output, status_of, IsLicensed}
-use Rattle.glide_run.specs.Effects.{Gains, WritesPrefix}
-use Rattle.glide_run.specs.Run.{failures_of, fetch_state, SettlesAt, Gathers, Step, Run}
-use Rattle.glide_run.specs.Obeying.{IsBadNext, EndsAt, ScriptGives}
-use Rattle.glide_run.specs.Ending.{IsWalk, IsShown, IsOrStops, ending_text, bad_status, ended_status}
-use Rattle.glide_run.proofs.Gathers.{names-gathered}
-use Rattle.glide_run.proofs.Shown.{lines-append}
-use Rattle.glide_run.proofs.Writing.{wrote_all, wrote_more, wrote_less, wrote_as}
-use Rattle.glide_run.proofs.Realize.{with_marks, marked_failures, begin_failures, count, count-append, realize, walk_bad, licensed_at}
+use Rattle.image_format.specs.Content.{picture_in}
+use Rattle.cache_key.specs.KeyBytes.{address_of}
+use Rattle.load_cause.specs.declared.causes.Cause.{Cause}
+use Rattle.load_cause.specs.declared.causes.Cause.TheVariants as causes
+use Rattle.load_cause.specs.Ends.{end_of, end_in}
+use Rattle.outside.specs.Causes.{Rose}
+use Rattle.outside.specs.Content.{Address, Contents}
+use Rattle.script_lines.specs.declared.commands.Command.{Command}
+use Rattle.script_lines.specs.declared.commands.Command.TheVariants.{Load, Layout, Clear, ClearAll, Pause, PauseAll, Resume, Trim, Wait, Show, Dump}
+use Rattle.script_lines.specs.Script.{Numbered, Script, script_of}
+use Rattle.printed_lines.specs.Printed.{PrintedLine, lines_text, run_text, says_failed, says_failed_source}
+use Rattle.script_walk.specs.Walk.{Begin, Outcome, TraceEvent, Dropped, Begun, Ended, Trimmed, Printed, Step, opening, closing, walk, trace}
+use Rattle.script_walk.specs.Ends.{lines_in, bad_line, output, status_of, exit_status}
+use Rattle.script_walk.specs.Marks.{Marks, Mark, Source, Memory, Uncached, FileKey, KeyResults, no_marks, cause_of, outcome_of, begins_in, is_source, source_marked, same_address, same_fetch, distinct, begins_at, failed_fetches, IsMarked, IsLicensed}
+use Rattle.script_walk.specs.Orderly.{In}
+use Rattle.script_walk.specs.Laws.{EachEnd, source_failures, IsAllowed, IsFailedBy, IsMarkedWalk, RunsAreWalks, BlamesAreEnds, EndsDecide, says_cached, NoneCached}
+use Rattle.held_views.specs.Gathers.{IsFetched, Fetches}
+use Rattle.glide_run.specs.Built.{is_normal, is_automatic, is_built, built}
+use Rattle.glide_run.specs.Handed.{Handed, Meanings, IsWritten, IsStill}
+use Rattle.glide_run.specs.Promise.{IsOrStops, answer, IsLicensedRun, IsRun, IsAnswer, IsComplete}
+use Rattle.glide_run.specs.inside.Stops.{ending_text, bad_status, ended_status}
+use Rattle.glide_run.specs.inside.Obeys.{failing_in}
+use Rattle.glide_run.specs.inside.Running.{AreBuilt, HasRun}
+use Rattle.glide_run.specs.declared.run.Ended as code
+use Rattle.glide_run.specs.declared.run.Stop.{Stop}
+use Rattle.glide_run.proofs.Events.{Says, each_map, ends_left}
+use Rattle.glide_run.proofs.Scripts.{both_false, not_false}
+use Rattle.glide_run.proofs.Sinks.{wrote_all, wrote_more, wrote_less, wrote_as}
 
--- ---- the first bad line
+-- the laws of the walk that are cited
+pub record Laws : Type 0 where
+  pub runs : RunsAreWalks
+  pub blames : BlamesAreEnds
+  pub cached : NoneCached
+  pub decide : EndsDecide
 
-same_bytes : (xs ys : List ℕ) → bytes_eq xs ys ≡ true → xs ≡ ys
-same_bytes xs ys e = grind (arith, bytes_eq-Decides)
+-- ---- what each begin came to
 
-names_at : (b h : Bool) (x name : List ℕ) (names rest : List (List ℕ)) → (b ≡ true → x ≡ name) → rest ≡ cond h names (names ++ name ∷ [])
-    → cond b (name ∷ names) (x ∷ rest) ≡ cond (b || h) (x ∷ names) ((x ∷ names) ++ name ∷ [])
-names_at true h x name names rest same e = ap (λ n. n ∷ names) (sym (same refl))
-names_at false true x name names rest same e = ap (λ l. x ∷ l) e
-names_at false false x name names rest same e = ap (λ l. x ∷ l) e
+allowed : (content : Contents) (b : Begin) (r : Result Picture Cause) → IsFetched (Some content) b r → IsAllowed (end_in content) b r
+allowed content b r (inl e) = inl e
+allowed content b r (inr e) = inr (Source, e)
 
-names_cond : (b : Bool) (v x : Seen) (xs ys : List Seen) → names_of (cond b (v ∷ xs) (x ∷ ys)) ≡ cond b (v.name ∷ names_of xs) (x.name ∷ names_of ys)
-names_cond true v x xs ys = refl
-names_cond false v x xs ys = refl
+end_never_memory : (given : Option (Result Picture Refusal)) → Err causes.Memory ≡ end_of given → ⊥
+end_never_memory None e = cc
+end_never_memory (Some (Ok picture)) e = cc
+end_never_memory (Some (Err refusal)) e = cc
 
-names-put : (v : Seen) (xs : List Seen) → names_of (put_view v xs) ≡ with_name v.name (names_of xs)
-names-put v [] = refl
-names-put v (x ∷ xs) =
-    names_cond (bytes_eq x.name v.name) v x xs (put_view v xs)
-    ∙ names_at (bytes_eq x.name v.name) (has_name v.name (names_of xs)) x.name v.name (names_of xs) (names_of (put_view v xs)) (λ e. same_bytes x.name v.name e) (names-put v xs)
+end_never_uncached : (given : Option (Result Picture Refusal)) → Err causes.Uncached ≡ end_of given → ⊥
+end_never_uncached None e = cc
+end_never_uncached (Some (Ok picture)) e = cc
+end_never_uncached (Some (Err refusal)) e = cc
 
--- the first bad line is among the lines that are left
-bad_from : (content : Option Contents) (done left : List Command) (n : ℕ) (vs : List Seen) (lines : List PrintedLine) (f : List Address) (ws : List Seen) → Run content vs done lines f ws
-    → bad_line_from n (names_of vs) (done ++ left) ≡ bad_line_from (n + length done) (names_of ws) left
-bad_from content [] left n vs lines f ws p = let e : n ≡ n + 0 = omega arith in λ i. bad_line_from (e i) (names_of (sym p.2 i)) left
-bad_from content (Nothing ∷ done) left n vs lines f ws p =
-    let e : n + 1 + length done ≡ n + length (Nothing ∷ done) = omega arith in
-    ap (λ l. bad_line_from (n + 1) (names_of l) (done ++ left)) (sym p.7.2) ∙ bad_from content done left (n + 1) p.0 p.2 p.4 ws p.8 ∙ ap (λ k. bad_line_from k (names_of ws) left) e
-bad_from content (Bad ∷ done) left n vs lines f ws p = absurd p.7
-bad_from content (Load name key ∷ done) left n vs lines f ws p =
-    let e : n + 1 + length done ≡ n + length (Load name key ∷ done) = omega arith in
-    ap (λ b. cond b (bad_line_from (n + 1) (with_name name (names_of vs)) (done ++ left)) (Some n)) p.7.0
-    ∙ ap (λ l. bad_line_from (n + 1) l (done ++ left)) (sym (ap names_of p.7.3 ∙ names-put record { name = name; key = key; state = Running tt } vs))
-    ∙ bad_from content done left (n + 1) p.0 p.2 p.4 ws p.8 ∙ ap (λ k. bad_line_from k (names_of ws) left) e
-bad_from content (Dump name ∷ done) left n vs lines f ws p =
-    let e : n + 1 + length done ≡ n + length (Dump name ∷ done) = omega arith in
-    ap (λ b. cond b (bad_line_from (n + 1) (names_of vs) (done ++ left)) (Some n)) p.7.0
-    ∙ ap (λ l. bad_line_from (n + 1) l (done ++ left)) (sym (names-gathered content vs p.3 p.0 p.7.1))
-    ∙ bad_from content done left (n + 1) p.0 p.2 p.4 ws p.8 ∙ ap (λ k. bad_line_from k (names_of ws) left) e
-bad_from content (Show ∷ done) left n vs lines f ws p =
-    let e : n + 1 + length done ≡ n + length (Show ∷ done) = omega arith in
-    ap (λ l. bad_line_from (n + 1) l (done ++ left)) (sym (names-gathered content vs p.3 p.0 p.7.0))
-    ∙ bad_from content done left (n + 1) p.0 p.2 p.4 ws p.8 ∙ ap (λ k. bad_line_from k (names_of ws) left) e
+never_memory : (content : Contents) (b : Begin) → IsFetched (Some content) b (Err causes.Memory) → ⊥
+never_memory content b (inl e) = end_never_memory (picture_in content b.spec.key) e
+never_memory content b (inr e) = cc
 
-bad_next : (n : ℕ) (ws : List Seen) (left : List Command) → IsBadNext ws left → bad_line_from n (names_of ws) left ≡ Some n
-bad_next n ws [] p = absurd p
-bad_next n ws (Nothing ∷ left) p = absurd p
-bad_next n ws (Bad ∷ left) p = refl
-bad_next n ws (Load name key ∷ left) p = ap (λ b. cond b (bad_line_from (n + 1) (with_name name (names_of ws)) left) (Some n)) p
-bad_next n ws (Dump name ∷ left) p = ap (λ b. cond b (bad_line_from (n + 1) (names_of ws) left) (Some n)) p
-bad_next n ws (Show ∷ left) p = absurd p
+never_uncached : (content : Contents) (b : Begin) → IsFetched (Some content) b (Err causes.Uncached) → ⊥
+never_uncached content b (inl e) = end_never_uncached (picture_in content b.spec.key) e
+never_uncached content b (inr e) = cc
 
--- what a script's end says is its first bad line
-bad_is_line : (content : Option Contents) (done left : List Command) (lines : List PrintedLine) (f : List Address) (ws : List Seen) (bad : Option ℕ) → Run content [] done lines f ws → EndsAt bad done left ws → bad_line (done ++ left) ≡ bad
-bad_is_line content done left lines f ws None run end = bad_from content done left 1 [] lines f ws run ∙ ap (bad_line_from (1 + length done) (names_of ws)) end
-bad_is_line content done left lines f ws (Some n) run end =
-    let e : 1 + length done ≡ n = omega (arith, end.0) in
-    bad_from content done left 1 [] lines f ws run ∙ bad_next (1 + length done) ws left end.1 ∙ ap Some e
+-- No begin failed for what a mark stands for, where none may.
+never_failed : (P : Says) (mark : Mark) (number : ℕ) → ((b : Begin) → P b (Err (cause_of mark)) → ⊥) → (es : List TraceEvent) → EachEnd P es → IsFailedBy mark number es → ⊥
+never_failed P mark number never [] h is = is
+never_failed P mark number never (Ended b result ∷ es) h (inl is) = never b (subst (P b) is.1 h.0)
+never_failed P mark number never (Ended b result ∷ es) h (inr is) = never_failed P mark number never es h.1 is
+never_failed P mark number never (Dropped b ∷ es) h is = never_failed P mark number never es h is
+never_failed P mark number never (Begun b others ∷ es) h is = never_failed P mark number never es h is
+never_failed P mark number never (Trimmed level ∷ es) h is = never_failed P mark number never es h is
+never_failed P mark number never (Printed line ∷ es) h is = never_failed P mark number never es h is
 
--- ---- lines that blame the source
+marked_in : (marks : Marks) (begins : List Begin) (begin : Begin) (mark : Mark) → IsMarked marks begins begin mark → In begin begins × (marks begin.number ≡ Some mark)
+marked_in marks [] begin mark is = absurd is
+marked_in marks (b ∷ bs) begin mark (inl is) = (inl (sym is.0), ap (λ (x : Begin). marks x.number) (sym is.0) ∙ is.1)
+marked_in marks (b ∷ bs) begin mark (inr is) = let rest = marked_in marks bs begin mark is in (inr rest.0, rest.1)
 
-decoded_fine : (r : Result Picture Refusal) → blames_source {N = ⊤} (decoded r) ≡ false
-decoded_fine (Ok picture) = refl
-decoded_fine (Err refusal) = refl
+-- ---- loads that are built do not say `cached`
 
-fetched_fine : (key : Key) (answer : Option (List ℕ)) → blames_source {N = ⊤} (fetched key answer) ≡ false
-fetched_fine key None = refl
-fetched_fine key (Some text) = decoded_fine (picture_of text key)
+last_false : (a b : Bool) → (a && not b) ≡ true → b ≡ false
+last_false true true e = cc
+last_false true false e = refl
+last_false false b e = cc
 
-fetch_fine : (key : Key) (fails : Bool) (answer : Option (List ℕ)) → failures_of key fails ≡ [] → blames_source (fetch_state key fails answer) ≡ false
-fetch_fine key true answer none = cc
-fetch_fine key false answer none = fetched_fine key answer
+uncached : (command : Command) → is_built command ≡ true → says_cached command ≡ false
+uncached (Load view spec sized) e = last_false (is_normal spec.priority && is_automatic spec.strategy && not spec.skip) spec.cached e
+uncached (Layout view width height) e = refl
+uncached (Clear view) e = refl
+uncached ClearAll e = refl
+uncached Pause e = refl
+uncached PauseAll e = refl
+uncached Resume e = refl
+uncached (Trim level) e = refl
+uncached Wait e = refl
+uncached Show e = refl
+uncached (Dump view) e = refl
 
--- a view whose line would blame the source
-abbrev blames : Seen → Bool
-blames view = blames_source view.state
+none_cached : (commands : List Numbered) → AreBuilt commands → list_any (λ (first : Numbered). says_cached first.command) commands ≡ false
+none_cached [] are = refl
+none_cached (first ∷ others) are =
+    let parts = both_false (not (is_built first.command)) (list_any (λ (x : Numbered). not (is_built x.command)) others) are in
+    let here = uncached first.command (not_false (is_built first.command) parts.0) in
+    let rest = none_cached others parts.1 in
+    (λ i. here i || rest i)
 
-settled_fine : (content : Option Contents) (s : State ⊤) (v w : Seen) (f : List Address) → SettlesAt content s v f w → f ≡ [] → blames v ≡ false → blames w ≡ false
-settled_fine content (Running note) v w f p none fine = ap blames_source p.1.state_is ∙ fetch_fine v.key p.1.fails p.1.answer (sym p.1.failed_is ∙ none)
-settled_fine content (Complete picture) v w f p none fine = ap blames p.0 ∙ fine
-settled_fine content (Failed cause) v w f p none fine = ap blames p.0 ∙ fine
+-- ---- where no fetch failed
 
-both_empty : (f g h : List Address) → h ≡ f ++ g → h ≡ [] → (f ≡ []) × (g ≡ [])
-both_empty [] g h e none = (refl, sym e ∙ none)
-both_empty (x ∷ f) g h e none = cc
+given_one : (content : Contents) (b : Begin) (r : Result Picture Cause) → IsFetched (Some content) b r → (r ≡ Err causes.Source → ⊥) → answer content b ≡ r
+given_one content b r (inl e) never = sym e
+given_one content b r (inr e) never = absurd (never e)
 
-neither : (a b : Bool) → (a || b) ≡ false → (a ≡ false) × (b ≡ false)
-neither true b e = cc
-neither false b e = (refl, e)
+not_source : (b : Begin) (r : Result Picture Cause) (es : List TraceEvent) → source_failures (Ended b r ∷ es) ≡ [] → (r ≡ Err causes.Source → ⊥) × (source_failures es ≡ [])
+not_source b (Ok picture) es none = (λ e. cc, none)
+not_source b (Err causes.Missing) es none = (λ e. cc, none)
+not_source b (Err (causes.Refused refusal)) es none = (λ e. cc, none)
+not_source b (Err causes.Source) es none = cc
+not_source b (Err causes.Memory) es none = (λ e. cc, none)
+not_source b (Err causes.Uncached) es none = (λ e. cc, none)
 
-any_of : (a b : Bool) → a ≡ false → b ≡ false → (a || b) ≡ false
-any_of a b p q = λ i. p i || q i
+all_given : (content : Contents) (es : List TraceEvent) → EachEnd (IsFetched (Some content)) es → source_failures es ≡ [] → EachEnd (λ b r. answer content b ≡ r) es
+all_given content [] h none = tt
+all_given content (Ended b r ∷ es) h none =
+    let parts = not_source b r es none in
+    (given_one content b r h.0 parts.0, all_given content es h.1 parts.1)
+all_given content (Dropped b ∷ es) h none = all_given content es h none
+all_given content (Begun b others ∷ es) h none = all_given content es h none
+all_given content (Trimmed level ∷ es) h none = all_given content es h none
+all_given content (Printed line ∷ es) h none = all_given content es h none
 
-gathered_fine : (content : Option Contents) (xs : List Seen) (f : List Address) (ys : List Seen) → Gathers content xs f ys → f ≡ [] → list_any blames xs ≡ false → list_any blames ys ≡ false
-gathered_fine content [] f [] p none fine = refl
-gathered_fine content [] f (y ∷ ys) p none fine = absurd p
-gathered_fine content (x ∷ xs) f [] p none fine = absurd p
-gathered_fine content (x ∷ xs) f (y ∷ ys) p none fine =
-    let each = neither (blames x) (list_any blames xs) fine in
-    let parts = both_empty p.0 p.1 f p.2 none in
-    any_of (blames y) (list_any blames ys) (settled_fine content x.state x y p.0 p.3 parts.0 each.0) (gathered_fine content xs p.1 ys p.4 parts.1 each.1)
+-- ---- counts
 
-put_fine_at : (b : Bool) (v x : Seen) (xs rest : List Seen) → blames v ≡ false → blames x ≡ false → list_any blames xs ≡ false → list_any blames rest ≡ false
-    → list_any blames (cond b (v ∷ xs) (x ∷ rest)) ≡ false
-put_fine_at true v x xs rest p q r s = any_of (blames v) (list_any blames xs) p r
-put_fine_at false v x xs rest p q r s = any_of (blames x) (list_any blames rest) q s
+count_append : (p : Address → Bool) (xs ys : List Address) → count_by p xs ≤ count_by p (xs ++ ys)
+count_append p xs ys = omega (arith, sum_by-append (λ a. cond (p a) 1 0) xs ys)
 
-put_fine : (v : Seen) (xs : List Seen) → blames v ≡ false → list_any blames xs ≡ false → list_any blames (put_view v xs) ≡ false
-put_fine v [] p q = any_of (blames v) false p refl
-put_fine v (x ∷ xs) p q =
-    let each = neither (blames x) (list_any blames xs) q in
-    put_fine_at (bytes_eq x.name v.name) v x xs (put_view v xs) p each.0 each.1 (put_fine v xs p each.1)
+front_some : (xs ys : List Address) → xs ≢ [] → xs ++ ys ≢ []
+front_some [] ys some = absurd (some refl)
+front_some (x ∷ xs) ys some = λ e. cc
 
-named_fine_at : (b : Bool) (x : Seen) (rest : List Seen) → blames x ≡ false → list_any blames rest ≡ false → list_any blames (cond b (x ∷ []) rest) ≡ false
-named_fine_at true x rest p q = any_of (blames x) false p refl
-named_fine_at false x rest p q = q
+-- ---- the end of a run
 
-named_fine : (name : List ℕ) (xs : List Seen) → list_any blames xs ≡ false → list_any blames (named name xs) ≡ false
-named_fine name [] q = refl
-named_fine name (x ∷ xs) q =
-    let each = neither (blames x) (list_any blames xs) q in
-    named_fine_at (bytes_eq x.name name) x (named name xs) each.0 (named_fine name xs each.1)
+all_text : (lines : List PrintedLine) (bad : Option ℕ) → lines_text lines ++ ending_text bad ≡ run_text lines bad
+all_text lines None = append-nil (lines_text lines)
+all_text lines (Some number) = refl
 
--- The lines of such views blame it, in each form.
-lines_fine : (form : Form) (xs : List Seen) → list_any blames xs ≡ false → list_any says_failed_source (lines_as form xs) ≡ false
-lines_fine form [] q = refl
-lines_fine form (x ∷ xs) q =
-    let each = neither (blames x) (list_any blames xs) q in
-    any_of (blames x) (list_any says_failed_source (lines_as form xs)) each.0 (lines_fine form xs each.1)
+status_is : (bad : Option ℕ) (failing : Bool) (lines : List PrintedLine) → failing ≡ list_any says_failed lines → bad_status bad failing ≡ status_of lines bad
+status_is None failing lines e = ap (λ b. cond b 1 0) e
+status_is (Some number) failing lines e = refl
 
-any_append : (xs ys : List PrintedLine) → list_any says_failed_source xs ≡ false → list_any says_failed_source ys ≡ false → list_any says_failed_source (xs ++ ys) ≡ false
-any_append [] ys p q = q
-any_append (x ∷ xs) ys p q =
-    let each = neither (says_failed_source x) (list_any says_failed_source xs) p in
-    any_of (says_failed_source x) (list_any says_failed_source (xs ++ ys)) each.0 (any_append xs ys each.1 q)
+pub most : (bad : Option ℕ) (failing : Bool) → bad_status bad failing ≤ 3
+most None true = omega arith
+most None false = omega arith
+most (Some number) failing = omega arith
 
-step_fine : (content : Option Contents) (command : Command) (vs : List Seen) (l : List PrintedLine) (f : List Address) (ws : List Seen) → Step content vs command l f ws → f ≡ [] → list_any blames vs ≡ false
-    → (list_any says_failed_source l ≡ false) × (list_any blames ws ≡ false)
-step_fine content Nothing vs l f ws p none fine = (ap (list_any says_failed_source) p.0, ap (list_any blames) p.2 ∙ fine)
-step_fine content Bad vs l f ws p none fine = absurd p
-step_fine content (Load name key) vs l f ws p none fine =
-    (ap (list_any says_failed_source) p.1, ap (list_any blames) p.3 ∙ put_fine record { name = name; key = key; state = Running tt } vs refl fine)
-step_fine content (Dump name) vs l f ws p none fine =
-    let after = gathered_fine content vs f ws p.1 none fine in
-    (ap (list_any says_failed_source) p.2 ∙ lines_fine Pixels (named name ws) (named_fine name ws after), after)
-step_fine content Show vs l f ws p none fine =
-    let after = gathered_fine content vs f ws p.0 none fine in
-    (ap (list_any says_failed_source) p.1 ∙ lines_fine Digest ws after, after)
+wanted_is : (wanted status : ℕ) → IsOrStops wanted status → status ≤ 3 → status ≡ wanted
+wanted_is wanted status (inl e) le = e
+wanted_is wanted status (inr (inl e)) le = absurd (omega arith)
+wanted_is wanted status (inr (inr e)) le = absurd (omega arith)
 
--- With no failed fetch no line blames the source.
-run_fine : (content : Option Contents) (done : List Command) (vs : List Seen) (lines : List PrintedLine) (f : List Address) (ws : List Seen) → Run content vs done lines f ws → f ≡ [] → list_any blames vs ≡ false → list_any says_failed_source lines ≡ false
-run_fine content [] vs lines f ws p none fine = ap (list_any says_failed_source) p.0
-run_fine content (command ∷ done) vs lines f ws p none fine =
-    let parts = both_empty p.3 p.4 f p.6 none in
-    let one = step_fine content command vs p.1 p.3 p.0 p.7 parts.0 fine in
-    ap (list_any says_failed_source) p.5 ∙ any_append p.1 p.2 one.0 (run_fine content done p.0 p.2 p.4 ws p.8 parts.1 one.1)
+past : (status : ℕ) → 3 < status → status ≤ 3 → ⊥
+past status lt le = absurd (omega arith)
 
-run_blames : (content : Option Contents) (done : List Command) (lines : List PrintedLine) (f more : List Address) (ws : List Seen) → Run content [] done lines f ws → list_any says_failed_source lines ≡ true → f ++ more ≢ []
-run_blames content done lines f more ws run blamed none =
-    let parts = both_empty f more (f ++ more) refl none in
-    let clash : true ≡ false = sym blamed ∙ run_fine content done [] lines f ws run parts.0 refl in cc
+module _ {I W S : Type 0} (m : Meanings I W S) (laws : Laws) (old : Handed I W S) where
+  -- what was written at the end of a run, and its status
+  pub record Finished (result : Result code.Ended Stop) (status : ℕ) (mid new : Handed I W S) (p : HasRun m result old mid) : Type 0 where
+    pub written : IsWritten m.sink old.out new.out (output p.outcome p.script) (status ≤ 3)
+    pub status_is : status ≤ 3 → status ≡ exit_status p.outcome p.script
 
--- ---- the ends
+  pub finished : (ended : code.Ended) (status : ℕ) (mid new : Handed I W S) (p : HasRun m (Ok ended) old mid) → IsOrStops (ended_status ended) status
+      → IsWritten m.sink mid.out new.out (ending_text ended.bad) (status ≤ 3) → Finished (Ok ended) status mid new p
+  finished ended status mid new p stops last =
+      let lines = lines_in (trace p.outcome p.script.commands) in
+      record {
+        written = wrote_as m.sink old.out new.out (lines_text lines ++ ending_text ended.bad) (output p.outcome p.script) (status ≤ 3) (all_text lines ended.bad ∙ ap (run_text lines) p.bad)
+            (wrote_more m.sink old.out mid.out new.out (lines_text lines) (ending_text ended.bad) (status ≤ 3) (wrote_all m.sink old.out mid.out (lines_text lines) (IsOk {E = Stop} (Ok ended)) p.written refl) last);
+        status_is = λ le. wanted_is (ended_status ended) status stops le ∙ status_is ended.bad ended.failing lines p.failing ∙ ap (status_of lines) p.bad;
+      }
 
-all_text : (lines : List PrintedLine) (bad : Option ℕ) → run_text lines bad ≡ lines_text lines ++ ending_text bad
-all_text lines None = sym (append-nil (lines_text lines))
-all_text lines (Some n) = refl
+  pub broken : (stop : Stop) (status : ℕ) (new : Handed I W S) (p : HasRun m (Err stop) old new) → 3 < status → Finished (Err stop) status new new p
+  broken stop status new p lt =
+      let lines = lines_in (trace p.outcome p.script.commands) in
+      record {
+        written = wrote_as m.sink old.out new.out (lines_text lines ++ ending_text (bad_line p.script)) (output p.outcome p.script) (status ≤ 3) (all_text lines (bad_line p.script))
+            (wrote_less m.sink old.out new.out (lines_text lines) (ending_text (bad_line p.script)) (IsOk {T = code.Ended} (Err stop)) (status ≤ 3) p.written (λ le. absurd (past status lt le)));
+        status_is = λ le. absurd (past status lt le);
+      }
 
-status_is_ended : (bad : Option ℕ) (failing : Bool) (lines : List PrintedLine) → failing ≡ list_any says_failed lines → bad_status bad failing ≡ status_of lines bad
-status_is_ended None failing lines e = ap (λ b. cond b 1 0) e
-status_is_ended (Some n) failing lines e = refl
+  module _ (result : Result code.Ended Stop) (status : ℕ) (mid new : Handed I W S) (p : HasRun m result old mid) (f : Finished result status mid new p) (same : mid.source ≡ new.source) where
+    abbrev all : List TraceEvent
+    all = trace p.outcome p.script.commands
 
-ended_as : (wanted status : ℕ) → IsOrStops wanted status → status ≤ 3 → status ≡ wanted
-ended_as wanted status (inl e) le = e
-ended_as wanted status (inr (inl e)) le = absurd (omega arith)
-ended_as wanted status (inr (inr e)) le = absurd (omega arith)
+    abbrev failed : List Address
+    failed = source_failures all ++ p.more
 
--- what was written at the end of a script
-ended_text : (content : Option Contents) (opened : Option (List Command)) (ended : Ended) (status : ℕ) (wo w wn : Option (List ℕ)) (fo fn : List Address) (b n : ℕ) (s : ScriptGives content opened (Ok ended) wo w fo fn b n)
-    → WritesPrefix w wn (ending_text ended.bad) (status ≤ 3) → WritesPrefix wo wn (run_text s.lines ended.bad) (status ≤ 3)
-ended_text content opened ended status wo w wn fo fn b n s last =
-    wrote_as wo wn (lines_text s.lines ++ ending_text ended.bad) (run_text s.lines ended.bad) (status ≤ 3) (sym (all_text s.lines ended.bad)) (wrote_more wo w wn (lines_text s.lines) (ending_text ended.bad) (status ≤ 3) (wrote_all wo w (lines_text s.lines) _ s.wrote refl) last)
+    fetched : Fetches m.source old.source new.source failed (length (begins_in all))
+    fetched = subst (λ s. Fetches m.source old.source s failed (length (begins_in all))) same p.fetches
 
-ended_is : (content : Option Contents) (opened : Option (List Command)) (ended : Ended) (status : ℕ) (wo w : Option (List ℕ)) (fo fn : List Address) (b n : ℕ) (s : ScriptGives content opened (Ok ended) wo w fo fn b n)
-    → IsOrStops (ended_status ended) status → status ≤ 3 → status ≡ status_of s.lines ended.bad
-ended_is content opened ended status wo w fo fn b n s stops le = ended_as (ended_status ended) status stops le ∙ status_is_ended ended.bad ended.failing s.lines s.end.0
-
--- A script was obeyed, and what is said at its end was written, or a prefix of it.
-pub shown_ended : (content : Option Contents) (opened : Option (List Command)) (ended : Ended) (status : ℕ) (wo w wn : Option (List ℕ)) (fo fn : List Address) (b n : ℕ)
-    → ScriptGives content opened (Ok ended) wo w fo fn b n → IsOrStops (ended_status ended) status → WritesPrefix w wn (ending_text ended.bad) (status ≤ 3) → IsShown content opened status wo wn b n
-shown_ended content opened ended status wo w wn fo fn b n s stops last = record {
-  done = s.done;
-  left = s.left;
-  lines = s.lines;
-  failed = s.failed;
-  views = s.views;
-  bad = ended.bad;
-  known = s.known;
-  run = s.run;
-  bad_is = λ le. sym (bad_is_line content s.done s.left s.lines s.failed s.views ended.bad s.run s.end.1);
-  written = ended_text content opened ended status wo w wn fo fn b n s last;
-  status_is = ended_is content opened ended status wo w fo fn b n s stops;
-  caused = λ blamed. s.gains.caused (run_blames content s.done s.lines s.failed s.more s.views s.run blamed);
-}
-
-past_three : (status : ℕ) → 3 < status → status ≤ 3 → ⊥
-past_three status lt le = absurd (omega arith)
-
--- The run was stopped.
-pub shown_stopped : (content : Option Contents) (opened : Option (List Command)) (stop : Stop) (status : ℕ) (wo wn : Option (List ℕ)) (fo fn : List Address) (b n : ℕ)
-    → ScriptGives content opened (Err stop) wo wn fo fn b n → 3 < status → IsShown content opened status wo wn b n
-shown_stopped content opened stop status wo wn fo fn b n s past = record {
-  done = s.done;
-  left = s.left;
-  lines = s.lines;
-  failed = s.failed;
-  views = s.views;
-  bad = None;
-  known = s.known;
-  run = s.run;
-  bad_is = λ le. absurd (past_three status past le);
-  written = record { prefix = s.wrote.prefix; rest = s.wrote.rest; parts = s.wrote.parts; added = s.wrote.added; all = λ le. absurd (past_three status past le) };
-  status_is = λ le. absurd (past_three status past le);
-  caused = λ blamed. s.gains.caused (run_blames content s.done s.lines s.failed s.more s.views s.run blamed);
-}
-
-recorded_as : (texts : Contents) (fo fn : List Address) (b n : ℕ) (f : List Address) → Gains (Some texts) fo fn b n f → fn ≡ fo ++ f
-recorded_as texts fo fn b n f p = p.recorded
-
--- What is left is not walked where a script ended.
-nothing_left : (texts : Contents) (bad : Option ℕ) (done left : List Command) (views : List Seen) → EndsAt bad done left views → walk texts [] (with_marks views []) left ≡ []
-nothing_left texts None done left views end = ap (walk texts [] (with_marks views [])) end
-nothing_left texts (Some n) done left views end = walk_bad texts [] views left end.1
-
-licence : (marks : List Bool) (all : List Command) (failed more : List Address) (unmarked : List Address) → ((address : Address) → count address unmarked + count address (begin_failures marks all) ≤ count address failed) → IsLicensed marks all (failed ++ more)
-licence marks all failed more unmarked le = λ address. licensed_at address marks all (failed ++ more) (omega (arith, le address, count-append address failed more))
-
-pub walk_ended : (texts : Contents) (all : List Command) (ended : Ended) (status : ℕ) (wo w wn : Option (List ℕ)) (fo fn : List Address) (b n : ℕ)
-    → ScriptGives (Some texts) (Some all) (Ok ended) wo w fo fn b n → IsOrStops (ended_status ended) status → WritesPrefix w wn (ending_text ended.bad) (status ≤ 3) → IsWalk texts all status wo wn fo fn b n
-walk_ended texts all ended status wo w wn fo fn b n s stops last =
-    let real = realize texts s.done s.left [] s.lines s.failed s.views s.run in
-    let walked : walk texts real.1 [] all ≡ s.lines =
-    ap (walk texts real.1 []) s.known ∙ real.2 ∙ ap (λ l. s.lines ++ l) (nothing_left texts ended.bad s.done s.left s.views s.end.1) ∙ append-nil s.lines in
-    let bad : bad_line all ≡ ended.bad = ap bad_line s.known ∙ bad_is_line (Some texts) s.done s.left s.lines s.failed s.views ended.bad s.run s.end.1 in
-    record {
-      marks = real.1;
-      failed = s.failed ++ s.more;
-      failed_is = recorded_as texts fo fn b n (s.failed ++ s.more) s.gains;
-      caused = s.gains.caused;
-      licensed = subst (λ l. IsLicensed real.1 l (s.failed ++ s.more)) (sym s.known) (licence real.1 (s.done ++ s.left) s.failed s.more (marked_failures [] real.0) real.3);
-      written = wrote_as wo wn (run_text s.lines ended.bad) (output texts real.1 all) (status ≤ 3) (sym (λ i. run_text (walked i) (bad i))) (ended_text (Some texts) (Some all) ended status wo w wn fo fn b n s last);
-      status_is = λ le. ended_is (Some texts) (Some all) ended status wo w fo fn b n s stops le ∙ sym (λ i. status_of (walked i) (bad i));
+    -- the promise, for any outcome of the same trace
+    run_with : (o : Outcome) → trace o p.script.commands ≡ all → IfSome (m.source.content old.source) (λ content. IsLicensedRun m content p.script o status old.source new.source) → IsRun m status old new
+    run_with o e licensed = record {
+      script = p.script;
+      script_is = p.script_is;
+      outcome = o;
+      written = wrote_as m.sink old.out new.out (output p.outcome p.script) (output o p.script) (status ≤ 3) (ap (λ t. run_text (lines_in t) (bad_line p.script)) (sym e)) f.written;
+      status_is = λ le. f.status_is le ∙ ap (λ t. status_of (lines_in t) (bad_line p.script)) (sym e);
+      fetches = subst (λ t. m.source.fetched new.source ≤ m.source.fetched old.source + length (begins_in t)) (sym e) fetched.counted;
+      blames = λ blamed. fetched.caused (front_some (source_failures all) p.more (subst (λ t. source_failures t ≢ []) e (laws.blames o p.script.commands blamed)));
+      licensed = licensed;
     }
 
--- the text of a walk, where its first lines are known
-text_from : (lines rest : List PrintedLine) (bad : Option ℕ) → run_text (lines ++ rest) bad ≡ lines_text lines ++ (lines_text rest ++ ending_text bad)
-text_from lines rest bad =
-    all_text (lines ++ rest) bad ∙ ap (λ l. l ++ ending_text bad) (lines-append lines rest) ∙ append_assoc (lines_text lines) (lines_text rest) (ending_text bad)
+    licence : (content : Contents) → m.source.content old.source ≡ Some content → (marked : IsMarkedWalk (end_in content) p.script.commands all)
+        → IsLicensedRun m content p.script (outcome_of (end_in content) marked.marks) status old.source new.source
+    licence content is marked =
+        let o = outcome_of (end_in content) marked.marks in
+        let events = trace o p.script.commands in
+        let ends = subst (λ c. EachEnd (IsFetched c) all) is p.ends in
+        let recorded = subst (λ c. OnSome c (m.source.failed new.source ≡ m.source.failed old.source ++ failed)) is fetched.recorded in
+        record {
+          marks = marked.marks;
+          outcome_is = refl;
+          failed = failed;
+          failed_is = recorded;
+          caused = fetched.caused;
+          licensed = record {
+            source_asked = λ begin mark. laws.cached o p.script.commands (none_cached p.script.commands p.all_built) begin (marked_in marked.marks (begins_in events) begin Source mark).0;
+            source = λ address. omega (
+              arith,
+              ap (λ t. failed_fetches marked.marks (begins_in t) address) marked.walk_is,
+              marked.licensed address,
+              count_append (λ a. same_address a address) (source_failures all) p.more,
+            );
+            memory = λ le begin mark. never_failed (IsFetched (Some content)) Memory begin.number (never_memory content) all ends (marked.owed begin.number Memory (marked_in marked.marks (begins_in events) begin Memory mark).1);
+            uncached = λ begin file mark. absurd (never_failed (IsFetched (Some content)) (Uncached file) begin.number (never_uncached content) all ends (marked.owed begin.number (Uncached file) (marked_in marked.marks (begins_in events) begin (Uncached file) mark).1));
+          };
+        }
 
-pub walk_stopped : (texts : Contents) (all : List Command) (stop : Stop) (status : ℕ) (wo wn : Option (List ℕ)) (fo fn : List Address) (b n : ℕ)
-    → ScriptGives (Some texts) (Some all) (Err stop) wo wn fo fn b n → 3 < status → IsWalk texts all status wo wn fo fn b n
-walk_stopped texts all stop status wo wn fo fn b n s past =
-    let real = realize texts s.done s.left [] s.lines s.failed s.views s.run in
-    let rest = walk texts [] (with_marks s.views []) s.left in
-    let walked : walk texts real.1 [] all ≡ s.lines ++ rest = ap (walk texts real.1 []) s.known ∙ real.2 in
-    let text : output texts real.1 all ≡ lines_text s.lines ++ (lines_text rest ++ ending_text (bad_line all)) =
-    ap (λ l. run_text l (bad_line all)) walked ∙ text_from s.lines rest (bad_line all) in
-    record {
-      marks = real.1;
-      failed = s.failed ++ s.more;
-      failed_is = recorded_as texts fo fn b n (s.failed ++ s.more) s.gains;
-      caused = s.gains.caused;
-      licensed = subst (λ l. IsLicensed real.1 l (s.failed ++ s.more)) (sym s.known) (licence real.1 (s.done ++ s.left) s.failed s.more (marked_failures [] real.0) real.3);
-      written = wrote_as wo wn (lines_text s.lines ++ (lines_text rest ++ ending_text (bad_line all))) (output texts real.1 all) (status ≤ 3) (sym text)
-          (wrote_less wo wn (lines_text s.lines) (lines_text rest ++ ending_text (bad_line all)) _ (status ≤ 3) s.wrote (λ le. absurd (past_three status past le)));
-      status_is = λ le. absurd (past_three status past le);
-    }
+    run_at : (content : Option Contents) → m.source.content old.source ≡ content → IsRun m status old new
+    run_at None is = run_with p.outcome refl (subst (λ c. IfSome c (λ content. IsLicensedRun m content p.script p.outcome status old.source new.source)) (sym is) tt)
+    run_at (Some content) is =
+        let ends = subst (λ c. EachEnd (IsFetched c) all) is p.ends in
+        let marked = laws.runs (end_in content) p.outcome p.script.commands (each_map (IsFetched (Some content)) (IsAllowed (end_in content)) (allowed content) all ends) in
+        let o = outcome_of (end_in content) marked.marks in
+        run_with o (sym marked.walk_is) (subst (λ c. IfSome c (λ content. IsLicensedRun m content p.script o status old.source new.source)) (sym is) (licence content is marked))
 
-pub gives_as : (a content : Option Contents) (o opened : Option (List Command)) (result : Result Ended Stop) (wo wn : Option (List ℕ)) (fo fn : List Address) (b n : ℕ) → a ≡ content → o ≡ opened
-    → ScriptGives a o result wo wn fo fn b n → ScriptGives content opened result wo wn fo fn b n
-gives_as a content o opened result wo wn fo fn b n same known s =
-    subst (λ x. ScriptGives x opened result wo wn fo fn b n) same (subst (λ x. ScriptGives a x result wo wn fo fn b n) known s)
+    pub run_is : IsRun m status old new
+    run_is = run_at (m.source.content old.source) refl
+
+    -- ---- where nothing failed
+
+    none_failed : (Rose (m.source.faults old.source) (m.source.faults new.source) → ⊥) → source_failures all ≡ []
+    none_failed still = elim (source_failures all) as (λ l. (l ≢ [] → ⊥) → l ≡ []) [
+      | [] ↦ λ never. refl
+      | a ∷ more ↦ λ never. absurd (never (λ e. cc))
+    ] (λ some. still (fetched.caused (front_some (source_failures all) p.more some)))
+
+    -- Where no fetch failed, each begin came to what the content gives its key.
+    pub answered : (content : Contents) → m.source.content old.source ≡ Some content → (Rose (m.source.faults old.source) (m.source.faults new.source) → ⊥) → trace (answer content) p.script.commands ≡ all
+    answered content is still =
+        let w = walk p.outcome opening p.script.commands in
+        let ends = subst (λ c. EachEnd (IsFetched c) all) is p.ends in
+        let given = all_given content all ends (none_failed still) in
+        ap (λ (x : Step). x.events ++ closing x.stage)
+        (laws.decide (answer content) p.outcome p.script.commands (ends_left (λ b r. answer content b ≡ r) w.events (closing w.stage) given))
+
+    answer_at : (text : List ℕ) (content : Contents) → m.input.left old.input ≡ Some text → m.source.content old.source ≡ Some content → (Rose (m.source.faults old.source) (m.source.faults new.source) → ⊥)
+        → status ≤ 3 → IsAnswer m content (built (script_of text)) status old.out new.out
+    answer_at text content known is still le =
+        let script : p.script ≡ built (script_of text) = subst (λ o. IfSome o (λ text. p.script ≡ built (script_of text))) known p.script_is in
+        let same = answered content is still in
+        let here : IsAnswer m content p.script status old.out new.out = inr (
+          subst (Appends (m.sink.written old.out) (m.sink.written new.out)) (ap (λ t. run_text (lines_in t) (bad_line p.script)) (sym same)) (wrote_all m.sink old.out new.out (output p.outcome p.script) (status ≤ 3) f.written le),
+          f.status_is le ∙ ap (λ t. status_of (lines_in t) (bad_line p.script)) (sym same),
+        ) in
+        subst (λ s. IsAnswer m content s status old.out new.out) script here
+
+    -- A run that no fault disturbs is the answer.
+    pub complete_is : (IsStill m old new → (status ≤ 3) ⊎ (status ≡ 4)) → IsComplete m status old new
+    complete_is ends still = elim (m.input.left old.input) as (λ l. m.input.left old.input ≡ l → IfSome l (λ text. IfSome (m.source.content old.source) (λ content. IsAnswer m content (built (script_of text)) status old.out new.out))) [
+      | None ↦ λ e. tt
+      | Some text ↦ λ known. elim (m.source.content old.source) as (λ c. m.source.content old.source ≡ c → IfSome c (λ content. IsAnswer m content (built (script_of text)) status old.out new.out)) [
+        | None ↦ λ e. tt
+        | Some content ↦ λ is. elim (ends still) as (λ w. IsAnswer m content (built (script_of text)) status old.out new.out) [
+          | inl le ↦ answer_at text content known is still.source le
+          | inr four ↦ inl four
+        ]
+      ] refl
+    ] refl
+
+-- how a run may end that no fault disturbs
+pub still_ends : (wanted status : ℕ) → wanted ≤ 3 → IsOrStops wanted status → (status ≡ 6 → ⊥) → (status ≤ 3) ⊎ (status ≡ 4)
+still_ends wanted status le (inl e) not_six = inl (omega (arith, e, le))
+still_ends wanted status le (inr (inl e)) not_six = inr e
+still_ends wanted status le (inr (inr e)) not_six = absurd (not_six e)

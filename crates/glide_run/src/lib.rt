@@ -1,23 +1,21 @@
-// Obeys a script of `load`, `dump` and `show` lines.
+// Obeys a script of views, and prints what each of them shows.
 #![tactic(auto)]
 
-mod gathering;
-mod obeying;
-mod printing;
-mod reader;
-mod requests;
+mod obeys;
+mod prints;
 mod run;
-mod script;
+mod settings;
 mod top;
-mod views;
+mod walks;
 
+pub use settings::Settings;
 pub use top::{Ending, glide_alone};
 
+#[cfg(test)]
+mod line_tests;
 #[cfg(test)]
 mod picture_tests;
 #[cfg(test)]
 mod test_runs;
 #[cfg(test)]
 mod tests;
-#[cfg(test)]
-mod worked;

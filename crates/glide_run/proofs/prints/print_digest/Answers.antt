@@ -1,0 +1,23 @@
+use Rattle.std.proofs.Common.{refl}
+use Rattle.printed_lines.specs.Printed.{ShownLine}
+use Rattle.script_walk.specs.Walk.{Digest, view_line}
+use Rattle.glide_run.proofs.Printing.{picture_at, digest_text, prints_one, prints_torn, err_is}
+use Rattle.glide_run.proofs.prints.print_digest.Goals as goal
+
+pub returns-in_err-write_shown_line-in-Some-clause-prints : goal.returns-in_err-write_shown_line-in-Some-clause-prints
+returns-in_err-write_shown_line-in-Some-clause-prints g c =
+    λ outcome s v follows at.
+    let picture = c.in-Some.bitmap.now.picture in
+    let e = picture_at outcome s c.args.views.now follows c.args.place v at c.name.result.now c.bytes.result.now picture Digest c.name.ensures c.bytes.ensures (c.in-Some.ensures.complete outcome s v follows at Digest) in
+    prints_torn g.W.Sink c.args.out.now c.write_shown_line.new.out (view_line outcome Digest v) (ShownLine c.bytes.result.now picture) e
+    (err_is c.from_residual.result c.from_residual.ensures.1) (digest_text g.W.Sink c.args.out.now c.write_shown_line.new.out c.bytes.result.now c.of-shown.result picture c.of-shown.ensures c.in_err-write_shown_line-in-Some.ensures)
+
+pub returns-in_ok-write_shown_line-in-Some-clause-prints : goal.returns-in_ok-write_shown_line-in-Some-clause-prints
+returns-in_ok-write_shown_line-in-Some-clause-prints g c =
+    λ outcome s v follows at.
+    let picture = c.in-Some.bitmap.now.picture in
+    let e = picture_at outcome s c.args.views.now follows c.args.place v at c.name.result.now c.bytes.result.now picture Digest c.name.ensures c.bytes.ensures (c.in-Some.ensures.complete outcome s v follows at Digest) in
+    prints_one g.W.Sink c.args.out.now c.write_shown_line.new.out (view_line outcome Digest v) (ShownLine c.bytes.result.now picture) _ e refl (digest_text g.W.Sink c.args.out.now c.write_shown_line.new.out c.bytes.result.now c.of-shown.result picture c.of-shown.ensures c.in_ok-write_shown_line-in-Some.ensures)
+
+pub returns-in-None-clause-prints : goal.returns-in-None-clause-prints
+returns-in-None-clause-prints g c = λ outcome s v follows at. c.print_plain.ensures.prints outcome s v follows at (c.in-None.ensures.complete outcome s v follows at) Digest
