@@ -121,12 +121,26 @@ CONFIGS = {
 }
 
 
-def resized(view, name, wanted_width, wanted_height, transform, config, rule="atleast"):
+def rows_resized(name, wanted_width, wanted_height, transform, rule="atleast"):
     width, height, pixel = PICTURES[name]
     rows = [[pixel(x, y) for x in range(width)] for y in range(height)]
     rows = sampled(rows, sample_for(width, height, wanted_width, wanted_height, rule))
-    rows = TRANSFORMS[transform](rows, wanted_width, wanted_height)
-    return f"{view} pixels " + b"".join(CONFIGS[config](*p) for row in rows for p in row).hex()
+    return TRANSFORMS[transform](rows, wanted_width, wanted_height)
+
+
+def packed(rows, config):
+    return b"".join(CONFIGS[config](*p) for row in rows for p in row)
+
+
+def resized(view, name, wanted_width, wanted_height, transform, config, rule="atleast"):
+    rows = rows_resized(name, wanted_width, wanted_height, transform, rule)
+    return f"{view} pixels {packed(rows, config).hex()}"
+
+
+def shown_resized(view, name, wanted_width, wanted_height, transform, config):
+    rows = rows_resized(name, wanted_width, wanted_height, transform)
+    digest = hashlib.sha256(packed(rows, config)).hexdigest()
+    return f"{view} shown {len(rows[0])} {len(rows)} {config} {digest}"
 
 
 IMAGES = {name: text(name) for name in PICTURES} | {
@@ -168,6 +182,26 @@ OUTPUTS = {
         resized("larger", "checkerboard", 8, 8, "fit", "rgb565"),
         resized("same", "red", 16, 16, "inside", "alpha"),
         "huge failed refused too-large",
+    ]),
+    "views": (1, [
+        "list waiting",
+        shown_resized("list", "gradient", 4, 4, "none", "argb"),
+        shown_resized("list", "gradient", 4, 4, "none", "argb"),
+        "item paused",
+        pixels("item", "red"),
+        "list paused",
+        "item paused",
+        shown_resized("list", "gradient", 2, 2, "none", "argb"),
+        shown("item", "red"),
+        "list cleared",
+        shown("item", "red"),
+        "gone failed missing",
+        "list cleared",
+        shown("item", "red"),
+        "gone failed missing",
+        "list cleared",
+        "item cleared",
+        "gone cleared",
     ]),
 }
 

@@ -16,7 +16,7 @@ if [ -n "$newer" ]; then
 fi
 cd "$here" || exit 1
 failed=0
-for name in pictures failures sizes; do
+for name in pictures failures sizes views; do
     echo "$name.script:"
     "$built" <"$name.script" >"$name.printed"
     echo "(status $?)" >>"$name.printed"
@@ -29,4 +29,8 @@ printed=$("$built" --nonsense <pictures.script; echo "(status $?)")
 echo "$printed"
 [ "$printed" = "glide: bad usage
 (status 2)" ] || failed=1
+echo "a picture to look at: out/gradient.ppm"
+mkdir -p ../out
+printf 'load large gradient 1 256 256 fit argb\ndump large\n' | "$built" | python3 pixels_to_ppm.py 256 256 >../out/gradient.ppm
+[ "$(wc -c <../out/gradient.ppm)" -eq 196623 ] || failed=1
 exit $failed
