@@ -30,7 +30,8 @@ abbrev pub PutsAlike : Type 0
 PutsAlike = (maximum : ℕ) (bitmap : BitmapValue) (groups : List (Group BitmapValue)) →
     let size = bitmap.allocation in
     let config = bitmap.picture.config in
-    numbered (pool_put maximum size config bitmap groups) ≡ pool_put maximum size config bitmap.number (numbered groups)
+    numbered (pool_put maximum size config bitmap groups)
+    ≡ pool_put maximum size config bitmap.number (numbered groups)
 
 abbrev pub TrimsAlike : Type 0
 TrimsAlike = (room : ℕ) (groups : List (Group BitmapValue))

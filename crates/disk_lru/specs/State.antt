@@ -9,7 +9,7 @@ use Rattle.cache_folder.specs.Steps.{Cached}
 use Rattle.cache_folder.specs.Tables.{Table, CacheTableValue, kept}
 use Rattle.cache_folder.specs.Sound.{listed}
 
--- a folder is told apart by its entries
+-- a folder is kept apart by its entries
 abbrev pub folder_code : Coded Folder
 folder_code = code (coded_list coded_ℕ) (coded_list coded_ℕ)
 

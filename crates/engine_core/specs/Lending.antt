@@ -8,7 +8,7 @@ use Rattle.engine_world.specs.World.{Job, Resource, World}
 use Rattle.engine_world.specs.Places.{occurrences}
 use Rattle.engine_world.specs.Balance.{out_count}
 use Rattle.engine_world.specs.Sound.{ActiveAre}
-use Rattle.engine_core.specs.TablesView.{quota_sum}
+use Rattle.engine_world.specs.Rooms.{quota_sum}
 
 -- No count of takes is at the end of its type.
 pub record MayCount (w : World) : Type 0 where

@@ -1,5 +1,5 @@
 -- How the engine's tables are seen as its world. It is this project's own, as the tables are.
-use Rattle.std.specs.Prelude.{◌≡◌, ℕ, ◌+◌, List, [], ◌∷◌, map, length, sum_by, Some}
+use Rattle.std.specs.Prelude.{◌≡◌, ℕ, ◌+◌, List, [], ◌∷◌, map, length, Some}
 use Rattle.std.specs.FinMap.{get}
 use Rattle.finite_maps.specs.Maps.{total, map_values}
 use Rattle.engine_resource.specs.Resource.{ResourceValue}
@@ -7,6 +7,7 @@ use Rattle.memory_cache.specs.Cache.{number_in, size_in}
 use Rattle.bitmap_pool.specs.Numbered.{numbered}
 use Rattle.engine_world.specs.World.{Resource, Resources, World}
 use Rattle.engine_world.specs.Moves.{table_jobs, size_of}
+use Rattle.engine_world.specs.Rooms.{quota_sum}
 use Rattle.engine_core.specs.declared.tables.Tables.TheInside.{Inside}
 
 -- a resource of the table as the world has it
@@ -36,10 +37,6 @@ world_of s = record {
   closed = s.closed;
   content = s.told;
 }
-
--- how many loads the seats may have together
-abbrev pub quota_sum : List ℕ → ℕ
-quota_sum quotas = sum_by (λ quota. quota) quotas
 
 -- Each cached number stands with the size of its resource.
 abbrev pub SizesAre : Resources → List (ℕ × ℕ) → Type 0

@@ -26,7 +26,7 @@ use Rattle.engine_shared.specs.Answers.{IsLoaded, IsNext, IsFresh, IsOther}
 -- ---- one picture
 
 -- Each load that a caller was answered Ready for shows a picture: that of its key, where the content is
--- told.
+-- known.
 abbrev pub ShowsItsPicture : Type 0
 ShowsItsPicture =
     (c : Caller) → IsLegal c → (n : ℕ) (load : OwnLoad)

@@ -109,7 +109,7 @@ pub record HasLoad (c : Caller) (hold : HoldValue) : Type 0 where
   pub below : hold.number < (knowledge_of c).begun
 
 -- It was answered Ready for this load, which so shows a picture: that of its key, where the content is
--- told.
+-- known.
 pub record HasReadyLoad (c : Caller) (hold : HoldValue) : Type 0 where
   pub load : OwnLoad
   pub is : get (knowledge_of c).loads hold.number ≡ Some load

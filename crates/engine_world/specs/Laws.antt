@@ -64,7 +64,7 @@ KeepsHolds event = (w z : World) (known : ℕ → Knowledge) (who : ℕ) (reply 
     → (IsRelease load who event → ⊥) → IsHold z load r resource
 
 -- A load that its owner was answered Ready for is ready on a resource of its key, which has the key's
--- picture where the content is told.
+-- picture where the content is known.
 pub record ShowsItsKey (w : World) (load : LoadName) (key : Key) : Type 0 where
   pub number : ℕ
   pub resource : Resource

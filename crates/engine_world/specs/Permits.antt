@@ -51,7 +51,7 @@ pub record IsResult (bitmap : BitmapValue) (out : List Lent) : Type 0 where
   pub high : bitmap.picture.height ≡ lent.height
   pub config : bitmap.picture.config ≡ lent.config
 
--- Where the content is told, this is the picture of the key.
+-- Where the content is known, this is the picture of the key.
 abbrev pub IsPicture : Option Contents → Key → Picture → Type 0
 IsPicture None key found = ⊤
 IsPicture (Some content) key found = end_in content key ≡ Ok found
@@ -62,7 +62,7 @@ IsCauseOf content key causes.Missing = end_in content key ≡ Err causes.Missing
 IsCauseOf content key (causes.Refused refusal) = end_in content key ≡ Err (causes.Refused refusal)
 IsCauseOf content key cause = ⊤
 
--- This holds where the content is told.
+-- This holds where the content is known.
 abbrev pub IsCause : Option Contents → Key → Cause → Type 0
 IsCause None key cause = ⊤
 IsCause (Some content) key cause = IsCauseOf content key cause

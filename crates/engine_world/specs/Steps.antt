@@ -118,7 +118,7 @@ abbrev pub shown_by : (Picture → NotedReply) → Option Resource → NotedRepl
 shown_by reply None = replies.Done
 shown_by reply (Some resource) = reply resource.picture
 
--- what is told of the picture that a load is ready on
+-- what is known of the picture that a load is ready on
 abbrev pub shown : World → (Picture → NotedReply) → Option LoadState → NotedReply
 shown w reply None = replies.Done
 shown w reply (Some (Waiting j)) = replies.Done

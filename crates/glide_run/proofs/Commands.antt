@@ -100,7 +100,7 @@ module _ {W S : Type 0} (sink : sinks.Ghosts W) (source : sources.Ghosts S) wher
   prints_text : (lines : List PrintedLine) (out out2 : W) (failing : Bool) → Prints sink lines out out2 (Ok failing) → Appends (sink.written out) (sink.written out2) (lines_text lines)
   prints_text lines out out2 failing p =
       let w = p.writes in
-      subst (Appends (sink.written out) (sink.written out2)) (sym (w.parts ∙ ap (λ l. w.front ++ l) w.whole ∙ append-nil w.front)) w.added
+      subst (Appends (sink.written out) (sink.written out2)) (sym (w.parts ∙ ap (λ l. w.prefix ++ l) w.whole ∙ append-nil w.prefix)) w.added
 
   record HasGathered (form : Form) (shown : List ℕ → Bool) (o next : Outcome) (s : Stage) (old new : S) : Type 0 where
     ends : EachEnd (IsFetched (source.content old)) (after_effect next s (Gathers form shown)).events
@@ -170,7 +170,7 @@ module _ {W S : Type 0} (sink : sinks.Ghosts W) (source : sources.Ghosts S) wher
           can = can;
           next = g.next;
           ends = has_ends o s old new before after g;
-          written = record { prefix = w.front; rest = w.rest; parts = sym (ap lines_text same) ∙ w.parts; added = w.added; all = λ never. absurd never };
+          written = record { prefix = w.prefix; rest = w.rest; parts = sym (ap lines_text same) ∙ w.parts; added = w.added; all = λ never. absurd never };
         }
 
 -- The line of a dump is that of the view of its name.

@@ -129,7 +129,7 @@ err_is (Err x) same = ap Err same
 module _ {W : Type 0} (sink : sinks.Ghosts W) (out : W) where
   wrote_none : Writes sink out out [] (Ok tt)
   wrote_none = record {
-    front = [];
+    prefix = [];
     rest = [];
     parts = refl;
     added = Appends-nil (sink.written out);
@@ -313,12 +313,12 @@ module _ {W : Type 0} (sink : sinks.Ghosts W) where
       let u = p.writes in
       let w = q.writes in
       record {
-        front = lines_text first ++ w.front;
+        prefix = lines_text first ++ w.prefix;
         rest = w.rest ++ lines_text rest;
-        parts = text-append first (second ++ rest) ∙ ap (λ l. lines_text first ++ l) (text-append second rest ∙ ap (λ l. l ++ lines_text rest) w.parts ∙ append_assoc w.front w.rest (lines_text rest))
-            ∙ sym (append_assoc (lines_text first) w.front (w.rest ++ lines_text rest));
-        added = Appends-trans (sink.written old) (sink.written mid) (sink.written new) (lines_text first) w.front
-            (subst (Appends (sink.written old) (sink.written mid)) (sym (u.parts ∙ ap (λ l. u.front ++ l) u.whole ∙ append-nil u.front)) u.added) w.added;
+        parts = text-append first (second ++ rest) ∙ ap (λ l. lines_text first ++ l) (text-append second rest ∙ ap (λ l. l ++ lines_text rest) w.parts ∙ append_assoc w.prefix w.rest (lines_text rest))
+            ∙ sym (append_assoc (lines_text first) w.prefix (w.rest ++ lines_text rest));
+        added = Appends-trans (sink.written old) (sink.written mid) (sink.written new) (lines_text first) w.prefix
+            (subst (Appends (sink.written old) (sink.written mid)) (sym (u.parts ∙ ap (λ l. u.prefix ++ l) u.whole ∙ append-nil u.prefix)) u.added) w.added;
         whole = whole_of r (w.rest) (lines_text rest) w.whole (λ is. ap lines_text (none is));
         flushed = w.flushed ∙ u.flushed;
         cause = record { later = omega (arith, u.cause.later, w.cause.later); rose = λ e. rose_later (sink.faults old) (sink.faults mid) (sink.faults new) u.cause.later (w.cause.rose e) };

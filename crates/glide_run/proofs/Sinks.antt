@@ -50,4 +50,4 @@ module _ {W : Type 0} (sink : sinks.Ghosts W) (old mid new : W) (kept : sink.wri
   whole_at (Err fault) P h is = cc
 
   pub flushed_text : (whole : Type 0) {r : Result ⊤ WriteFault} → Writes sink old mid text r → (whole → IsOk r) → IsWritten sink old new text whole
-  flushed_text whole {r} w is = record { prefix = w.front; rest = w.rest; parts = w.parts; added = subst (λ o. Appends (sink.written old) o w.front) (sym kept) w.added; all = λ all. whole_at r (w.rest ≡ []) w.whole (is all) }
+  flushed_text whole {r} w is = record { prefix = w.prefix; rest = w.rest; parts = w.parts; added = subst (λ o. Appends (sink.written old) o w.prefix) (sym kept) w.added; all = λ all. whole_at r (w.rest ≡ []) w.whole (is all) }

@@ -1,4 +1,4 @@
--- What the words behind the program's name ask for. This project's own.
+-- What the words after the program's name ask for. This project's own.
 use Rattle.std.specs.Prelude.{List, [], ◌∷◌, Some, None}
 use Rattle.std.specs.declared.option.Option.{Option}
 use Rattle.glide_run.specs.declared.settings.Settings.{Settings}

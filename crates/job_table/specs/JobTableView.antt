@@ -16,7 +16,8 @@ value_of s = record { room = s.room; added = s.added; jobs = jobs_of s }
 -- Of one key and kind at most one job is not cancelled.
 abbrev pub OneOfEach : Jobs → Type 0
 OneOfEach jobs = (i j : ℕ) (a b : Job) → get jobs i ≡ Some a → get jobs j ≡ Some b
-    → a.cancelled ≡ false → b.cancelled ≡ false → a.spec.key ≡ b.spec.key → a.spec.cached ≡ b.spec.cached → i ≡ j
+    → a.cancelled ≡ false → b.cancelled ≡ false
+    → a.spec.key ≡ b.spec.key → a.spec.cached ≡ b.spec.cached → i ≡ j
 
 -- Its vector has the jobs in the order of their numbers, and room for as many as it may have.
 pub record IsTable (s : Inside) : Type 0 where

@@ -24,7 +24,8 @@ fn worked_joins()
 
 // A queued job goes, and a running one is marked.
 fn worked_cancel()
-    ensures queued { CancelLeaves ((1, runs Priority.Low) ∷ (2, waits Priority.Low) ∷ []) 2 ((1, runs Priority.Low) ∷ []) }
+    ensures queued { CancelLeaves ((1, runs Priority.Low) ∷ (2, waits Priority.Low) ∷ []) 2
+        ((1, runs Priority.Low) ∷ []) }
     ensures running { CancelLeaves ((1, runs Priority.Low) ∷ (2, waits Priority.Low) ∷ []) 1
         ((1, was_cancelled Priority.Low) ∷ (2, waits Priority.Low) ∷ []) }
 {}

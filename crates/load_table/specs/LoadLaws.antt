@@ -15,13 +15,15 @@ OnlyEqualNamesTie = IsAntisymmetric load_cmp
 
 -- A new load counts one more, where it passes.
 abbrev pub CountsOneMore : (C : Type 0) → Type 0
-CountsOneMore C = (p : LoadName → LoadState C → Bool) (loads : Loads C) (name : LoadName) (state : LoadState C)
+CountsOneMore C = (p : LoadName → LoadState C → Bool) (loads : Loads C)
+    (name : LoadName) (state : LoadState C)
     → get loads name ≡ None
     → count_where p (insert loads name state) ≡ count_where p loads + (if p name state then 1 else 0)
 
 -- A load that goes counts one less, where it passed.
 abbrev pub CountsOneLess : (C : Type 0) → Type 0
-CountsOneLess C = (p : LoadName → LoadState C → Bool) (loads : Loads C) (name : LoadName) (state : LoadState C)
+CountsOneLess C = (p : LoadName → LoadState C → Bool) (loads : Loads C)
+    (name : LoadName) (state : LoadState C)
     → get loads name ≡ Some state
     → count_where p loads ≡ count_where p (remove loads name) + (if p name state then 1 else 0)
 

@@ -13,7 +13,7 @@ pub record AllTell (content : Contents) (said : List (Option Contents)) : Type 0
   pub some : said ≢ []
   pub each : EachTells content said
 
--- A content is told exactly where all tell it: nothing is told where there are none, where one tells nothing, or where two
--- tell different ones.
+-- A content is known exactly where all tell it: nothing is known where there are none, where one tells nothing, or where
+-- two tell different ones.
 abbrev pub IsToldBy : List (Option Contents) → Option Contents → Type 0
-IsToldBy said told = (content : Contents) → (told ≡ Some content) ↔ AllTell content said
+IsToldBy said known = (content : Contents) → (known ≡ Some content) ↔ AllTell content said

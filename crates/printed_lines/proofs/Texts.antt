@@ -98,7 +98,7 @@ module _ {W : Type 0} {sink : Ghosts W} where
   -- nothing was written, for want of memory
   pub unwritten : {old : W} {text : List ℕ} {r : Result ⊤ WriteFault} → r ≡ Err Memory → Writes sink old old text r
   unwritten {old} {text} e = record {
-    front = [];
+    prefix = [];
     rest = text;
     parts = refl;
     added = Appends-nil (sink.written old);
@@ -110,7 +110,7 @@ module _ {W : Type 0} {sink : Ghosts W} where
   -- Nothing more of a line was written, for want of memory.
   pub unadded : {old : W} {line left text : List ℕ} {r : Result ⊤ WriteFault} → r ≡ Err Memory → Adds sink (old, line) (old, left) text r
   unadded {old} {line} {left} {text} e = record {
-    front = [];
+    prefix = [];
     rest = line ++ text;
     parts = refl;
     added = Appends-nil (sink.written old);
@@ -123,9 +123,9 @@ module _ {W : Type 0} {sink : Ghosts W} where
   pub stopped_adding : {old new : W × List ℕ} {text : List ℕ} {fault : WriteFault} {r : Result ⊤ WriteFault}
       → r ≡ Err fault → Adds sink old new [] (Err fault) → Adds sink old new text r
   stopped_adding {old} {new} {text} e a = record {
-    front = a.front;
+    prefix = a.prefix;
     rest = a.rest ++ text;
-    parts = ap (λ l. l ++ text) (sym (append-nil old.1) ∙ a.parts) ∙ append_assoc a.front a.rest text;
+    parts = ap (λ l. l ++ text) (sym (append-nil old.1) ∙ a.parts) ∙ append_assoc a.prefix a.rest text;
     added = a.added;
     left = at_err (a.rest ++ text ≡ new.1) e;
     flushed = a.flushed;
@@ -135,7 +135,7 @@ module _ {W : Type 0} {sink : Ghosts W} where
   -- A line begins.
   pub begun : {old : W} {start line : List ℕ} → line ≡ start → Adds sink (old, start) (old, line) (encode_lower []) (Ok tt)
   begun {old} {start} {line} e = record {
-    front = [];
+    prefix = [];
     rest = start ++ encode_lower [];
     parts = refl;
     added = Appends-nil (sink.written old);
@@ -148,11 +148,11 @@ module _ {W : Type 0} {sink : Ghosts W} where
   pub added_then : {old mid new : W × List ℕ} {first second : List ℕ} {r : Result ⊤ WriteFault}
       → Adds sink old mid first (Ok tt) → Adds sink mid new second r → Adds sink old new (first ++ second) r
   added_then {old} {mid} {new} {first} {second} a b = record {
-    front = a.front ++ b.front;
+    prefix = a.prefix ++ b.prefix;
     rest = b.rest;
-    parts = sym (append_assoc old.1 first second) ∙ ap (λ l. l ++ second) (a.parts ∙ ap (λ l. a.front ++ l) a.left)
-        ∙ append_assoc a.front mid.1 second ∙ ap (λ l. a.front ++ l) b.parts ∙ sym (append_assoc a.front b.front b.rest);
-    added = Appends-trans (sink.written old.0) (sink.written mid.0) (sink.written new.0) a.front b.front a.added b.added;
+    parts = sym (append_assoc old.1 first second) ∙ ap (λ l. l ++ second) (a.parts ∙ ap (λ l. a.prefix ++ l) a.left)
+        ∙ append_assoc a.prefix mid.1 second ∙ ap (λ l. a.prefix ++ l) b.parts ∙ sym (append_assoc a.prefix b.prefix b.rest);
+    added = Appends-trans (sink.written old.0) (sink.written mid.0) (sink.written new.0) a.prefix b.prefix a.added b.added;
     left = b.left;
     flushed = b.flushed ∙ a.flushed;
     cause = caused_later (sink.faults old.0) (sink.faults mid.0) (sink.faults new.0) _ _ a.cause b.cause;
@@ -162,11 +162,11 @@ module _ {W : Type 0} {sink : Ghosts W} where
   pub added_last : {old mid new : W} {start line first : List ℕ} {r : Result ⊤ WriteFault} (second : List ℕ)
       → Adds sink (old, start) (mid, line) first (Ok tt) → Writes sink mid new (line ++ second) r → Writes sink old new (start ++ first ++ second) r
   added_last {old} {mid} {new} {start} {line} {first} second a w = record {
-    front = a.front ++ w.front;
+    prefix = a.prefix ++ w.prefix;
     rest = w.rest;
-    parts = ap (λ l. l ++ second) (a.parts ∙ ap (λ l. a.front ++ l) a.left)
-        ∙ append_assoc a.front line second ∙ ap (λ l. a.front ++ l) w.parts ∙ sym (append_assoc a.front w.front w.rest);
-    added = Appends-trans (sink.written old) (sink.written mid) (sink.written new) a.front w.front a.added w.added;
+    parts = ap (λ l. l ++ second) (a.parts ∙ ap (λ l. a.prefix ++ l) a.left)
+        ∙ append_assoc a.prefix line second ∙ ap (λ l. a.prefix ++ l) w.parts ∙ sym (append_assoc a.prefix w.prefix w.rest);
+    added = Appends-trans (sink.written old) (sink.written mid) (sink.written new) a.prefix w.prefix a.added w.added;
     whole = w.whole;
     flushed = w.flushed ∙ a.flushed;
     cause = caused_later (sink.faults old) (sink.faults mid) (sink.faults new) _ _ a.cause w.cause;
@@ -176,9 +176,9 @@ module _ {W : Type 0} {sink : Ghosts W} where
   pub added_part : {old new : W} {start left first : List ℕ} {fault : WriteFault} {r : Result ⊤ WriteFault} (second : List ℕ)
       → r ≡ Err fault → Adds sink (old, start) (new, left) first (Err fault) → Writes sink old new (start ++ first ++ second) r
   added_part {start = start} {first = first} second e a = record {
-    front = a.front;
+    prefix = a.prefix;
     rest = a.rest ++ second;
-    parts = ap (λ l. l ++ second) a.parts ∙ append_assoc a.front a.rest second;
+    parts = ap (λ l. l ++ second) a.parts ∙ append_assoc a.prefix a.rest second;
     added = a.added;
     whole = at_err (a.rest ++ second ≡ []) e;
     flushed = a.flushed;

@@ -1,4 +1,4 @@
--- The forms of a line, told by its first word. The language is this project's own.
+-- The forms of a line, known by its first word. The language is this project's own.
 use Rattle.std.specs.Prelude.{◌≡◌, ℕ, ◌≤◌, ◌-◌, Bool, true, false, ◌&&◌, ◌==◌, nat_le, nat_lt, nat_eq, List, [], ◌∷◌, length, take, if◌then◌else◌, Some, None, codes, ⊤}
 use Rattle.std.specs.declared.option.Option.{Option}
 use Rattle.std.specs.Option.{option_map, option_map_or, unwrap_or}
@@ -97,7 +97,7 @@ abbrev pub trim_of : List (List ℕ) → Option Command
 trim_of (n ∷ []) = option_map Trim (level n)
 trim_of words = None
 
--- verbs with no word behind them
+-- verbs with no word after them
 abbrev pub bare_command : (verb : List ℕ) → Option Command
 bare_command verb =
     if bytes_eq verb (codes "clearall") then Some ClearAll
@@ -112,7 +112,7 @@ abbrev pub bare_of : (verb : List ℕ) → List (List ℕ) → Option Command
 bare_of verb [] = bare_command verb
 bare_of verb words = None
 
--- what a verb asks for with the words behind it
+-- what a verb asks for with the words after it
 abbrev pub command_of : (verb : List ℕ) → List (List ℕ) → Option Command
 command_of verb words =
     if bytes_eq verb (codes "load") then load_of words

@@ -34,7 +34,7 @@ no_more = record { commands = []; bad = None }
 abbrev pub bad_at : ℕ → Script
 bad_at number = record { commands = []; bad = Some number }
 
--- The old script is this command and the new one, where they are told.
+-- The old script is this command and the new one, where they are known.
 abbrev pub IsNext : Option Script → Numbered → Option Script → Type 0
 IsNext None first new = ⊤
 IsNext (Some old) first None = ⊥

@@ -70,7 +70,7 @@ and_said s (further.Strategy strategy) =
 and_said s further.Skip = if s.skip then None else Some (record s { skip = true })
 and_said s further.Cached = if s.cached then None else Some (record s { cached = true })
 
--- what all the words say, behind what was said before them
+-- what all the words say, after what was said before them
 abbrev pub and_words : Settings → List (List ℕ) → Option Settings
 and_words s [] = Some s
 and_words s (word ∷ words) = further_named word >>= λ said. and_said s said >>= λ s. and_words s words

@@ -63,7 +63,7 @@ abbrev pub StopsAtBadCommand : Type 0
 StopsAtBadCommand = (outcome : Outcome) (commands : List Numbered) (n : ℕ)
     → bad_command commands ≡ Some n → StopsAt outcome commands n
 
--- Where each of these commands can be obeyed, a walk goes on behind them from where they leave it.
+-- Where each of these commands can be obeyed, a walk goes on after them from where they leave it.
 pub record GoesOn (outcome : Outcome) (done left : List Numbered) : Type 0 where
   pub walk_is :
       let so_far = walk outcome opening done in

@@ -1,4 +1,4 @@
--- What the rebuilds before and behind a call leave.
+-- What the rebuilds before and after a call leave.
 use Rattle.std.specs.Prelude.{◌≡◌, ◌≤◌}
 use Rattle.cache_folder.specs.Images.{IfKnown, WasKnown, Runs}
 use Rattle.cache_folder.specs.Sound.{RebuildWay}

@@ -5,7 +5,7 @@ use Rattle.engine_world.specs.declared.events.Note.{Note}
 use Rattle.engine_world.specs.Knowledge.{knowledge_in}
 use Rattle.engine_core.specs.CoreView.{CoreValue}
 
--- The core serves this seat, and no content is told.
+-- The core serves this seat, and no content is known.
 pub record IsServed (core : CoreValue) (who : ℕ) : Type 0 where
   pub below : who < length core.world.limits.quotas
   pub untold : core.world.content ≡ None

@@ -25,7 +25,7 @@ use Rattle.glide_run.specs.declared.run.Stop.{Stop}
 abbrev pub with_all : List Numbered → Script → Script
 with_all done script = record { commands = done ++ script.commands; bad = script.bad }
 
--- Where the whole script is known, it is these commands and what is asked for behind them.
+-- Where the whole script is known, it is these commands and what is asked for after them.
 abbrev pub IsSplit : Option Script → List Numbered → Option Script → Type 0
 IsSplit None done rest = ⊤
 IsSplit (Some whole) done None = ⊥

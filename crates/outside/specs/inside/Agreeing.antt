@@ -12,16 +12,16 @@ same_entry a b = pointwise nat_eq a.0.0 b.0.0 && (pointwise nat_eq a.0.1 b.0.1 &
 abbrev pub same_content : Contents → Contents → Bool
 same_content a b = pointwise same_entry (entries a) (entries b)
 
--- what is told, where one more tells this
+-- what is known, where one more tells this
 abbrev pub agreed : Option Contents → Option Contents → Option Contents
 agreed None said = None
-agreed (Some told) None = None
-agreed (Some told) (Some said) = if same_content told said then Some told else None
+agreed (Some known) None = None
+agreed (Some known) (Some said) = if same_content known said then Some known else None
 
--- what is told, where each of these tells something more
+-- what is known, where each of these tells something more
 abbrev pub agreed_from : Option Contents → List (Option Contents) → Option Contents
-agreed_from told [] = told
-agreed_from told (said ∷ others) = agreed_from (agreed told said) others
+agreed_from known [] = known
+agreed_from known (said ∷ others) = agreed_from (agreed known said) others
 
 -- what these tell together
 abbrev pub told_by : List (Option Contents) → Option Contents

@@ -23,7 +23,7 @@ pub record Pieces : Type 0 where
 abbrev pub no_pieces : Pieces
 no_pieces = record { pending = []; line = []; room = script_limit }
 
--- what the lines before a reader say, where they are told
+-- what the lines before a reader say, where they are known
 abbrev pub lines_before : Pieces → Option (List ℕ) → Option (List Line)
 lines_before pieces left = option_map (lines_within pieces.room) (prepend_known pieces.pending left)
 
@@ -48,11 +48,11 @@ Fills (Err fault) old new left rest = (new ≡ old) × Keeps left rest
 abbrev pub BeginsBad : List Line → Type 0
 BeginsBad lines = (rest : List Line) × (lines ≡ Unreadable ∷ rest)
 
--- no lines, where they are told
+-- no lines, where they are known
 abbrev pub AreNone : Option (List Line) → Type 0
 AreNone lines = IfSome lines (λ lines. lines ≡ [])
 
--- The old lines are this one and the new ones, where they are told.
+-- The old lines are this one and the new ones, where they are known.
 abbrev pub IsNextLine : Option (List Line) → Line → Option (List Line) → Type 0
 IsNextLine None line new = ⊤
 IsNextLine (Some old) line None = ⊥

@@ -23,7 +23,7 @@ module _ {M N : Type 0} where
   abbrev pub seats_of : View M N → ℕ
   seats_of v = (if v.live then 1 else 0) + length v.joined
 
-  -- what is told at the end of a seat that was joined
+  -- what is known at the end of a seat that was joined
   abbrev pub summary : View M N → Joined N
   summary v = record { number = v.number; seen = v.seen; known = v.known }
 

@@ -27,7 +27,7 @@ returns-in_err-at g c =
     let before = c.loop-at.invariant in
     let same = err_is c.from_residual.result c.from_residual.ensures.1 in
     record {
-      front = take at bytes;
+      prefix = take at bytes;
       rest = drop at bytes;
       parts = sym (take-append-drop at bytes);
       added = Appends-kept _ _ _ _ before.added c.in_err-at.ensures.bytes;

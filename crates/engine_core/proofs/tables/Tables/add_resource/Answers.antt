@@ -10,7 +10,7 @@ use Rattle.engine_world.specs.World.{World}
 use Rattle.engine_world.specs.Sound.{ActiveAre}
 use Rattle.engine_world.specs.Steps.{activate}
 use Rattle.engine_core.specs.Lending.{resource_by}
-use Rattle.engine_core.specs.TablesView.{quota_sum}
+use Rattle.engine_world.specs.Rooms.{quota_sum}
 use Rattle.engine_core.proofs.Lending.{as_many}
 use Rattle.engine_core.proofs.Activating.{newer_key, fits_more, replaced_is, absent_in, new_resource, with_resource, joined_with, reactivated, added_is, activated_is}
 use Rattle.engine_core.proofs.tables.Tables.add_resource.Goals as goal
