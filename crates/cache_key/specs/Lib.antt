@@ -3,6 +3,7 @@ pub use Rattle.bitmap_kind.specs.declared.bitmaps.Rule
 pub use Rattle.bitmap_kind.specs.declared.bitmaps.Transform
 pub mod ConfigLaws
 pub mod Key
+pub mod KeyLaws
 pub mod KeyBytes
 pub mod KeyOf
 pub mod KeyView

@@ -28,7 +28,8 @@ use Rattle.engine_world.proofs.Parts.{whereabouts_of, facts_of}
 use Rattle.finite_maps.specs.MapLaws.{not_Some, same_Some, first_key-found, first_key-none}
 use Rattle.engine_world.proofs.Orders.{at_each_seat}
 use Rattle.engine_world.proofs.Occurs.{one_if_same, one_if_other, without_same, without_other, without-le}
-use Rattle.engine_world.proofs.Keys.{and_left, and_right, and_both, same_key-is, same_key-of, same_kind-is, same_kind-itself, has_key-found, has_key-there, find-passes, find-none, item_stands, stands_item}
+use Rattle.cache_key.specs.KeyLaws.{same_key-is, same_key-of}
+use Rattle.engine_world.proofs.Keys.{and_left, and_right, and_both, same_kind-is, same_kind-itself, has_key-found, has_key-there, find-passes, find-none, item_stands, stands_item}
 use Rattle.engine_world.proofs.Tabled.{table_job-found, table_job-there}
 use Rattle.engine_world.proofs.Jobs.{number_cases, put_same, put_other, put_cases, job_same, JobStays}
 use Rattle.engine_world.proofs.Placing.{out_new}

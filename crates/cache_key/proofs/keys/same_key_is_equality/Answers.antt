@@ -1,4 +1,4 @@
-use Rattle.cache_key.proofs.SameKey.{same_key-is, same_key-of}
+use Rattle.cache_key.specs.KeyLaws.{same_key-is, same_key-of}
 use Rattle.cache_key.proofs.keys.same_key_is_equality.Goals as goal
 
 pub returns : goal.returns

@@ -1,4 +1,4 @@
--- Two keys are the same exactly where all that they have is equal.
+-- Two keys are the same exactly where all that they have is equal, for proofs about what is found by its key.
 use Rattle.std.proofs.Common.{◌≡◌, Bool, true, eqb, refl, subst}
 use Rattle.std.specs.Str.{bytes_eq}
 use Rattle.std.specs.Bool.{Decides}
@@ -19,20 +19,20 @@ deciding b P d p = d.1 p
 
 transform_is : (a b : Transform) → same_transform a b ≡ true → a ≡ b
 transform_is transforms.Nothing transforms.Nothing e = refl
-transform_is transforms.Nothing transforms.Fit e = cc
-transform_is transforms.Nothing transforms.Crop e = cc
-transform_is transforms.Nothing transforms.Inside e = cc
-transform_is transforms.Fit transforms.Nothing e = cc
+transform_is transforms.Nothing transforms.Fit e = Prim.cc
+transform_is transforms.Nothing transforms.Crop e = Prim.cc
+transform_is transforms.Nothing transforms.Inside e = Prim.cc
+transform_is transforms.Fit transforms.Nothing e = Prim.cc
 transform_is transforms.Fit transforms.Fit e = refl
-transform_is transforms.Fit transforms.Crop e = cc
-transform_is transforms.Fit transforms.Inside e = cc
-transform_is transforms.Crop transforms.Nothing e = cc
-transform_is transforms.Crop transforms.Fit e = cc
+transform_is transforms.Fit transforms.Crop e = Prim.cc
+transform_is transforms.Fit transforms.Inside e = Prim.cc
+transform_is transforms.Crop transforms.Nothing e = Prim.cc
+transform_is transforms.Crop transforms.Fit e = Prim.cc
 transform_is transforms.Crop transforms.Crop e = refl
-transform_is transforms.Crop transforms.Inside e = cc
-transform_is transforms.Inside transforms.Nothing e = cc
-transform_is transforms.Inside transforms.Fit e = cc
-transform_is transforms.Inside transforms.Crop e = cc
+transform_is transforms.Crop transforms.Inside e = Prim.cc
+transform_is transforms.Inside transforms.Nothing e = Prim.cc
+transform_is transforms.Inside transforms.Fit e = Prim.cc
+transform_is transforms.Inside transforms.Crop e = Prim.cc
 transform_is transforms.Inside transforms.Inside e = refl
 
 transform_itself : (a : Transform) → same_transform a a ≡ true
@@ -43,15 +43,15 @@ transform_itself transforms.Inside = refl
 
 rule_is : (a b : Rule) → same_rule a b ≡ true → a ≡ b
 rule_is AtLeast AtLeast e = refl
-rule_is AtLeast AtMost e = cc
-rule_is AtMost AtLeast e = cc
+rule_is AtLeast AtMost e = Prim.cc
+rule_is AtMost AtLeast e = Prim.cc
 rule_is AtMost AtMost e = refl
 
 rule_itself : (a : Rule) → same_rule a a ≡ true
 rule_itself AtLeast = refl
 rule_itself AtMost = refl
 
--- one key
+-- two keys that are the same are equal
 pub same_key-is : (a b : Key) → same_key a b ≡ true → a ≡ b
 same_key-is a b e =
     let with_rule = and_parts _ (same_rule a.rule b.rule) e in
@@ -69,11 +69,13 @@ same_key-is a b e =
     let rule : a.rule ≡ b.rule = rule_is _ _ with_rule.1 in
     λ i. record { url = url i; sig = sig i; width = width i; height = height i; transform = transform i; config = config i; rule = rule i }
 
+-- a key is the same as itself
 pub same_key-itself : (a : Key) → same_key a a ≡ true
 same_key-itself a =
     and_from _ _ (and_from _ _ (and_from _ _ (and_from _ _ (and_from _ _ (and_from _ _
     (deciding _ _ (bytes_eq-Decides a.url a.url) refl) (deciding _ _ (bytes_eq-Decides a.sig a.sig) refl)) (eq-eqb a.width a.width refl)) (eq-eqb a.height a.height refl))
     (transform_itself a.transform)) (config_itself a.config)) (rule_itself a.rule)
 
+-- equal keys are the same
 pub same_key-of : (a b : Key) → a ≡ b → same_key a b ≡ true
 same_key-of a b e = subst (λ c. same_key a c ≡ true) e (same_key-itself a)
