@@ -12,6 +12,8 @@ pub use settings::Settings;
 pub use top::{Ending, glide_alone};
 
 #[cfg(test)]
+mod limit_tests;
+#[cfg(test)]
 mod line_tests;
 #[cfg(test)]
 mod picture_tests;
