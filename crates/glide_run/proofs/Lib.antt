@@ -8,3 +8,4 @@ pub mod Steps
 pub mod Runs
 pub mod Ends
 pub mod SoFar
+pub mod WorkedAnswers

@@ -9,4 +9,5 @@ pub mod Settings
 pub mod Built
 pub mod Handed
 pub mod Promise
+pub mod Worked
 pub mod inside

@@ -21,3 +21,5 @@ mod picture_tests;
 mod test_runs;
 #[cfg(test)]
 mod tests;
+#[cfg(test)]
+mod worked;
