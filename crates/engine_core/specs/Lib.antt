@@ -14,6 +14,7 @@ pub mod LiveJobs
 pub mod Loading
 pub mod Noted
 pub mod Opening
+pub mod Padded
 pub mod Releasing
 pub mod TablesView
 pub mod inside

@@ -3,6 +3,7 @@ ghost use Rattle.engine_world.specs.declared.events.Event.TheVariants as events;
 ghost use Rattle.engine_world.specs.Steps.{Transition};
 ghost use Rattle.engine_core.specs.Noted.{noted};
 ghost use Rattle.engine_core.specs.CoreView.{MayStep};
+ghost use Rattle.engine_core.specs.Padded.{IsPaddedReply, PadsPiece};
 
 use crate::history::History;
 use crate::replies::Reply;
@@ -30,7 +31,8 @@ impl Tables {
 
     fn answer_read(&mut self, history: &History, who: u32, number: u64, at: usize) -> Reply
         requires { MayStep self.old history.now.value who (events.Read number at) }
-        ensures { Transition self.old who (events.Read number at) (noted result) self.new }
+        ensures step { Transition self.old who (events.Read number at) (noted result) self.new }
+        ensures padded { IsPaddedReply result }
     {
         ready_loads_show_their_keys();
         self.read(who, number, at)
@@ -138,7 +140,8 @@ impl Tables {
     /// Answers an event of a seat.
     pub fn answer(&mut self, history: &History, who: u32, event: Event) -> Reply
         requires { MayStep self.old history.now.value who event }
-        ensures { Transition self.old who event (noted result) self.new }
+        ensures step { Transition self.old who event (noted result) self.new }
+        ensures padded { PadsPiece event result }
     {
         match event {
             Event::Load(spec) => self.answer_load(history, who, spec),

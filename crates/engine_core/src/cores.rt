@@ -8,6 +8,7 @@ ghost use Rattle.engine_world.specs.Permits.{Permits};
 ghost use Rattle.engine_world.specs.EngineMachine.{opening_of};
 ghost use Rattle.engine_core.specs.CoreView.{IsCore, note_of};
 ghost use Rattle.engine_core.specs.Opening.{AreServed};
+ghost use Rattle.engine_core.specs.Padded.{PadsPiece};
 ghost use Rattle.engine_core.specs.Noted.{noted};
 
 use crate::history::{History, add_entry};
@@ -71,13 +72,15 @@ impl Core {
         })
     }
 
-    /// Takes an event of the seat `who`, and replies to it. After `new` only `Take` takes memory.
+    /// Takes an event of the seat `who`, and replies to it. After `new` only `Take` takes memory. The bytes of a piece
+    /// after its count are 0.
     pub fn step(&mut self, who: u32, event: Event) -> Reply
         requires who { who < length self.old.world.limits.quotas }
         requires asks { Permits self.old.world.content (knowledge_in self.old.history who) event }
         ensures step { Transition self.old.world who event (noted result) self.new.world }
         ensures history { self.new.history ≡ self.old.history ++ entry who (note_of event result) ∷ [] }
         ensures opening { opening_of self.new.world ≡ opening_of self.old.world }
+        ensures padded { PadsPiece event result }
     {
         each_event_keeps_sound();
         each_event_keeps_limits();

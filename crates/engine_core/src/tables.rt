@@ -1,5 +1,5 @@
 // The tables as one state.
-ghost use Rattle.std.specs.Prelude.{◌≡◌, ℕ, ◌+◌, ◌≤◌, [], take, drop, length, Some, None, IsSome, true};
+ghost use Rattle.std.specs.Prelude.{◌≡◌, ℕ, ◌+◌, [], take, drop, length, Some, None, IsSome, true};
 ghost use Rattle.std.specs.FinMap.{get, remove};
 ghost use Rattle.load_table.specs.declared.loads.Settle.TheVariants as settles;
 ghost use Rattle.job_table.specs.Jobs.{queued_in};
@@ -10,6 +10,7 @@ ghost use Rattle.engine_world.specs.Moves.{table_jobs, to_pool, end_job, without
 ghost use Rattle.engine_world.specs.Steps.{collected, shown, shape_of, piece_from, is_cancelled, next_job, start_job, give_back};
 ghost use Rattle.engine_core.specs.Noted.{noted};
 ghost use Rattle.engine_core.specs.Conditions.{IsShown, IsLive};
+ghost use Rattle.engine_core.specs.Padded.{IsPadded, IsPaddedReply};
 
 use crate::live_jobs::{JobEnds, JobGives, JobRuns, NoJobs, Return, Start};
 use crate::replies::{PIECE, Piece, Reply};
@@ -100,9 +101,9 @@ fn shape_of(bitmap: &Bitmap) -> Shape
     }
 }
 
-// The stored bytes from a place on, as many as a piece has.
+// The stored bytes from a place on, as many as a piece has, and zeros after them.
 fn piece_of(stored: &[u8], at: usize) -> Piece
-    ensures count { result.count ≤ 4096 }
+    ensures padded { IsPadded result }
     ensures bytes { take result.count result.bytes ≡ take 4096 (drop at stored.now) }
 {
     let rest = &stored[at.min(stored.len())..];
@@ -135,7 +136,8 @@ impl Tables {
     /// A piece of the stored bytes of the picture that a load is ready on.
     pub fn read(&self, who: u32, number: u64, at: usize) -> Reply
         requires { IsShown self.now who number }
-        ensures { noted result ≡ shown self.now (λ picture. notes.Piece (piece_from at picture)) (get self.now.loads (who, number)) }
+        ensures shown { noted result ≡ shown self.now (λ picture. notes.Piece (piece_from at picture)) (get self.now.loads (who, number)) }
+        ensures padded { IsPaddedReply result }
     {
         match self.loads.state(who, number) {
             LoadState::Ready(r) => Reply::Piece(piece_of(

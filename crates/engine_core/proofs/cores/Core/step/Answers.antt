@@ -20,4 +20,4 @@ invariant_of-self c =
       permitted = subst (λ (v : CoreValue). Permits v.world.content (knowledge_in v.history c.args.who) c.args.event) (sym c.self.view_is) c.requires.asks;
     } in
     subst (IsCore c.answer-reply.new.self) (sym (c.add_entry.ensures ∙ ap (λ event. past ++ entry c.args.who (note_of event c.answer-reply.result) ∷ []) c.of-shown.ensures))
-    (stays_core w c.answer-reply.new.self past e c.own_entries_append.ensures c.each_event_keeps_sound.ensures c.each_event_keeps_limits.ensures.event c.each_event_keeps_opening.ensures may c.answer-reply.ensures)
+    (stays_core w c.answer-reply.new.self past e c.own_entries_append.ensures c.each_event_keeps_sound.ensures c.each_event_keeps_limits.ensures.event c.each_event_keeps_opening.ensures may c.answer-reply.ensures.step)

@@ -18,8 +18,8 @@ get-requires c =
     let held = held_there c.self.inside c.args.self.now c.requires.r c.requires.resource c.self.view_is c.requires.there in
     ap is_some (ap (get c.self.inside.resources.resources) same ∙ held.1)
 
-pub returns-in-Ready : goal.returns-in-Ready
-returns-in-Ready c =
+pub returns-in-Ready-clause-shown : goal.returns-in-Ready-clause-shown
+returns-in-Ready-clause-shown c =
     let told : Some c.state.result.now ≡ Some (Ready c.requires.r) = sym c.state.ensures ∙ ap (λ (v : World). get v.loads (c.args.who, c.args.number)) c.self.view_is ∙ c.requires.ready in
     let same : c.in-Ready.r ≡ c.requires.r = cc in
     let held = held_there c.self.inside c.args.self.now c.requires.r c.requires.resource c.self.view_is c.requires.there in
