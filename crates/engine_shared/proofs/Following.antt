@@ -17,48 +17,14 @@ use Rattle.engine_world.specs.Permits.{IsRunning, IsPicture}
 use Rattle.engine_world.specs.Sound.{Sound}
 use Rattle.engine_world.specs.Laws as world_laws
 use Rattle.engine_shared.specs.Tokens.{HoldValue}
-use Rattle.engine_shared.specs.Caller.{Caller, knowledge_of, content_of, noted, IsLegal, HasLoad}
+use Rattle.engine_shared.specs.Caller.{Caller, knowledge_of, content_of, IsLegal, HasLoad}
 use Rattle.engine_shared.specs.Answers.{IsOther}
 use Rattle.engine_shared.specs.CallLaws.{FullExactly, LoadsAreOwn, JobsAreOwn, TakesAnother, ReadyLoadsShow, LoadsStay, ReadyLoadsStay}
-use Rattle.engine_shared.proofs.EngineLaws.{EngineLaws, sound_of}
+use Rattle.engine_shared.proofs.EngineLaws.{EngineLaws, sound_in, sound_of}
+use Rattle.engine_shared.proofs.Loading.{full_where}
 use Rattle.engine_shared.proofs.Steps.{fixed_along, known_beside}
 use Rattle.engine_shared.proofs.Pictures.{shows_its_picture}
 use Rattle.engine_shared.proofs.Staying.{put_same, stays}
-
--- ---- a load that is refused
-
-abbrev NotFull : NotedReply → Type 0
-NotFull replies.Full = ⊥
-NotFull reply = ⊤
-
-by_job : (w : World) (who : ℕ) (spec : LoadSpec) (o : Option ℕ) → NotFull (load_by_job w who spec o).0
-by_job w who spec None = tt
-by_job w who spec (Some j) = tt
-
-by_cache : (w : World) (who : ℕ) (spec : LoadSpec) (o : Option ℕ) → NotFull (load_by_cache w who spec o).0
-by_cache w who spec None = by_job w who spec (job_for w.jobs spec.key spec.cached)
-by_cache w who spec (Some r) = tt
-
-by_active : (w : World) (who : ℕ) (spec : LoadSpec) (o : Option ℕ) → NotFull (load_by_active w who spec o).0
-by_active w who spec None = by_cache w who spec (cached_of w.resources w.cached spec.key)
-by_active w who spec (Some r) = tt
-
-given : (w : World) (who : ℕ) (spec : LoadSpec) → NotFull (cond spec.skip (load_from_jobs w who spec) (load_by_active w who spec (active_of w.resources w.active spec.key))).0
-given w who spec = elim spec.skip as (λ b. NotFull (cond b (load_from_jobs w who spec) (load_by_active w who spec (active_of w.resources w.active spec.key))).0) [
-  | true ↦ by_job w who spec (job_for w.jobs spec.key spec.cached)
-  | false ↦ by_active w who spec (active_of w.resources w.active spec.key)
-]
-
-full_where : (w : World) (who : ℕ) (spec : LoadSpec) → ((load w who spec).0 ≡ replies.Full) ↔ (owned who w.loads ≡ quota_of w who)
-full_where w who spec =
-    let more = cond spec.skip (load_from_jobs w who spec) (load_by_active w who spec (active_of w.resources w.active spec.key)) in
-    let test = eqb (owned who w.loads) (quota_of w who) in (
-      elim test as (λ b. test ≡ b → (cond b (replies.Full, w) more).0 ≡ replies.Full → owned who w.loads ≡ quota_of w who) [
-        | true ↦ λ e is. eqb-true _ _ e
-        | false ↦ λ e is. absurd (subst NotFull is (given w who spec))
-      ] refl,
-      λ same. ap (λ b. (cond b (replies.Full, w) more).0) (eq-eqb _ _ same),
-    )
 
 -- ---- a bitmap that is taken
 
@@ -76,7 +42,7 @@ module _ (laws : EngineLaws) where
   pub full_exactly : FullExactly
   full_exactly old new spec reply call =
       let w = call.before in
-      let sound : Sound w (knowledge_in (old.seen ++ call.others)) = laws.sound (λ w. w) (λ w. []) noted w.limits w.content (old.seen ++ call.others) w call.past in
+      let sound : Sound w (knowledge_in (old.seen ++ call.others)) = sound_in laws w (old.seen ++ call.others) call.past in
       let live : owned old.who w.loads ≡ len (knowledge_of old).loads = (sound.known_is old.who).live ∙ ap (λ (k : Knowledge). len k.loads) (known_beside laws.own old.who old.seen call.others call.none_own) in
       let quota : quota_of w old.who ≡ slice_index_or old.world.limits.quotas old.who 0 = ap (λ (l : Limits). slice_index_or l.quotas old.who 0) (fixed_along laws.opening old.world w call.others call.led).0 in
       let there = full_where w old.who spec in
@@ -85,7 +51,7 @@ module _ (laws : EngineLaws) where
   pub takes_another : world_laws.TakesAnother → TakesAnother
   takes_another another old new job width height config lent runs call =
       let w = call.before in
-      let sound : Sound w (knowledge_in (old.seen ++ call.others)) = laws.sound (λ w. w) (λ w. []) noted w.limits w.content (old.seen ++ call.others) w call.past in
+      let sound : Sound w (knowledge_in (old.seen ++ call.others)) = sound_in laws w (old.seen ++ call.others) call.past in
       let run : IsRunning (knowledge_in (old.seen ++ call.others) old.who) job.number = record { job = job; is = ap (λ (k : Knowledge). k.job) (known_beside laws.own old.who old.seen call.others call.none_own) ∙ runs; number = refl } in
       none_is lent.number job.out (another w new.world (knowledge_in (old.seen ++ call.others)) old.who job.number width height config lent sound run call.step)
 

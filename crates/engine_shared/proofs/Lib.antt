@@ -2,6 +2,9 @@ pub mod EngineLaws
 pub mod Steps
 pub mod Pictures
 pub mod Staying
+pub mod Loading
 pub mod Following
 pub mod Looking
+pub mod Answering
+pub mod Counting
 pub mod Owning

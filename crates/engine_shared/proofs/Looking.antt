@@ -30,7 +30,7 @@ shown_is w reply (Some (Ready r)) picture e = by_resource reply (get w.resources
 shown_is w reply (Some (Failed cause)) picture e = absurd (not_Some e)
 
 -- what is answered, where the world before the answer is the one after it
-answered : (old new : Caller) (hold : HoldValue) (event : Event) (given : NotedReply) (reply : Picture → NotedReply) (has : HasReadyLoad old hold) (call : IsCall old event given new) → (IsRelease (old.who, hold.number) old.who event → ⊥)
+pub answered : (old new : Caller) (hold : HoldValue) (event : Event) (given : NotedReply) (reply : Picture → NotedReply) (has : HasReadyLoad old hold) (call : IsCall old event given new) → (IsRelease (old.who, hold.number) old.who event → ⊥)
     → given ≡ shown call.before reply (get call.before.loads (old.who, hold.number)) → new.world ≡ call.before → given ≡ reply has.picture
 answered old new hold event given reply has call not is same =
     let now : shown_by new.world (get new.world.loads (new.who, hold.number)) ≡ Some has.picture = call.pictures hold.number (has.load, has.is, has.ready) not ∙ has.shows in

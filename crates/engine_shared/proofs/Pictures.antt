@@ -14,10 +14,11 @@ use Rattle.engine_world.specs.World.{Limits, Resource, World, opening}
 use Rattle.engine_world.specs.Knowledge.{knowledge_in}
 use Rattle.engine_world.specs.Permits.{Permits}
 use Rattle.engine_world.specs.Laws.{IsHold, IsRelease, NoRelease, ShowsItsKey}
-use Rattle.engine_shared.specs.Caller.{Caller, shown_by, noted, engine, Leads, IsLegal, entry_of}
+use Rattle.engine_core.specs.CoreView.{note_of}
+use Rattle.engine_shared.specs.Caller.{Caller, shown_by, engine, Leads, IsLegal, entry_of}
 use Rattle.engine_shared.specs.CallLaws.{ShowsItsPicture, ShowsOnePicture, StepsAreCalls, caller_after}
 use Rattle.engine_shared.proofs.EngineLaws.{EngineLaws, sound_of}
-use Rattle.engine_shared.proofs.Steps.{some_in, last_or_before, leads_join, fixed_along, legal_grows, own_has, known_beside, known_after}
+use Rattle.engine_shared.proofs.Steps.{some_in, last_or_before, fixed_along, own_has, known_beside, known_after}
 
 -- what a load that is ready on a resource shows
 shows_resource : (w : World) (who n r : ℕ) (resource : Resource) → IsHold w (who, n) r resource → shown_by w (get w.loads (who, n)) ≡ Some resource.picture
@@ -56,7 +57,7 @@ module _ (laws : EngineLaws) where
       (subst (λ c. histories.IsLegal engine (opening new.world.limits c) (old.seen ++ later) new.world) fixed.1
       (subst (λ h. histories.IsLegal engine (opening new.world.limits new.world.content) h new.world) seen next.past)) in
       let now : IsHold new.world (old.who, n) on.number on.resource =
-      laws.holds (λ w. w) (λ w. []) noted old.world.limits old.world.content old.seen later old.world new.world legal.past whole leads (old.who, n) on.number on.resource on.hold none in
+      laws.holds (λ core. core.world) (λ core. core.history) note_of old.world.limits old.world.content old.seen later old.world new.world legal.past whole leads (old.who, n) on.number on.resource on.hold none in
       ap (λ k. shown_by new.world (get new.world.loads (k, n))) who
       ∙ shows_resource new.world old.who n on.number on.resource now
       ∙ sym (shows_resource old.world old.who n on.number on.resource on.hold)
@@ -73,14 +74,14 @@ module _ (laws : EngineLaws) where
   steps_are_calls old event reply others before after legal none led past permits step =
       let e : Entry Note = entry_of old event reply in
       let first = fixed_along laws.opening old.world before others led in
-      let whole : Leads old.world (others ++ e ∷ []) after = leads_join old.world before after others (e ∷ []) led (after, step, refl) in
+      let whole : Leads old.world (others ++ e ∷ []) after = laws.join old.world before after others (e ∷ []) led (after, step, refl) in
       let fixed = fixed_along laws.opening old.world after (others ++ e ∷ []) whole in
       let now : Caller = caller_after old others event reply after in
       let there : histories.IsLegal engine (opening old.world.limits old.world.content) (old.seen ++ others) before =
       subst (λ l. histories.IsLegal engine (opening l old.world.content) (old.seen ++ others) before) first.0
       (subst (λ c. histories.IsLegal engine (opening before.limits c) (old.seen ++ others) before) first.1 past) in
       let grown : histories.IsLegal engine (opening old.world.limits old.world.content) now.seen after =
-      legal_grows (opening old.world.limits old.world.content) before after (old.seen ++ others) e there
+      laws.grow (opening old.world.limits old.world.content) before after (old.seen ++ others) e there
       (record {
         seat = legal.seat;
         asked = subst (λ k. Permits old.world.content k event) (sym (known_beside laws.own old.who old.seen others none)) permits;

@@ -1,4 +1,4 @@
--- Histories of the engine's steps: one after the other, and with one entry more.
+-- Histories of the engine's steps, and a caller's own entries in them.
 use Rattle.std.proofs.Common.{◌≡◌, ℕ, cond, List, [], ◌∷◌, ◌++◌, refl, ap, sym, subst, ◌∙◌, inl, inr}
 use Rattle.std.specs.Prelude.{⊤, ◌⊎◌}
 use Rattle.std.proofs.lemmas.Bool.{eq-eqb}
@@ -6,15 +6,13 @@ use Rattle.std.proofs.lemmas.List.{append-nil}
 use Rattle.state_machine.specs.declared.entry.Entry.{Entry}
 use Rattle.state_machine.specs.Histories.{own}
 use Rattle.state_machine.specs.Laws.{OwnEntriesAppend}
-use Rattle.state_machine.specs.Legal.{MayFollow, IsLegal}
 use Rattle.engine_world.specs.declared.events.Event.{Event}
 use Rattle.engine_world.specs.declared.events.Note.{Note}
 use Rattle.engine_world.specs.World.{World}
-use Rattle.engine_world.specs.Steps.{Step}
 use Rattle.engine_world.specs.Knowledge.{Knowledge, no_knowledge, updated, updated_by, knowledge_in}
 use Rattle.engine_world.specs.EngineMachine.{opening_of}
 use Rattle.engine_world.specs.Laws.{KeepsOpening}
-use Rattle.engine_shared.specs.Caller.{engine, Leads}
+use Rattle.engine_shared.specs.Caller.{Leads}
 
 abbrev HasFirst : {A : Type 0} → List A → Type 0
 HasFirst [] = ⊥
@@ -48,10 +46,6 @@ last_or_before (z ∷ zs) (x ∷ xs) ys e d is = elim (last_or_before zs xs ys e
 
 -- ---- worlds
 
-pub leads_join : (from between to : World) (first second : List (Entry Note)) → Leads from first between → Leads between second to → Leads from (first ++ second) to
-leads_join from between to [] second led leads = subst (λ w. Leads w second to) (sym led) leads
-leads_join from between to (e ∷ first) second led leads = (led.0, led.1, leads_join led.0 between to first second led.2 leads)
-
 -- limits and content of a world that steps lead to
 pub fixed_along : ((event : Event) → KeepsOpening event) → (from to : World) (history : List (Entry Note)) → Leads from history to → (to.limits ≡ from.limits) × (to.content ≡ from.content)
 fixed_along opens from to [] leads = (ap (λ (w : World). w.limits) (sym leads), ap (λ (w : World). w.content) (sym leads))
@@ -59,16 +53,6 @@ fixed_along opens from to (e ∷ history) leads =
     let one : opening_of leads.0 ≡ opening_of from = opens e.note.event from leads.0 e.by e.note.reply leads.1 in
     let rest = fixed_along opens leads.0 to history leads.2 in
     (rest.0 ∙ ap (λ (w : World). w.limits) one, rest.1 ∙ ap (λ (w : World). w.content) one)
-
--- a legal history stays legal with one entry more that may follow
-pub legal_grows : (start w z : World) (past : List (Entry Note)) (e : Entry Note) → IsLegal engine start past w → MayFollow engine start past e → Step w e z → IsLegal engine start (past ++ e ∷ []) z
-legal_grows start w z past e legal may step = record {
-  leads = leads_join start w z past (e ∷ []) legal.leads (z, step, refl);
-  asked = λ xs ys d is. elim (last_or_before past xs ys e d is) [
-    | inl h ↦ subst (λ a. MayFollow engine start xs a) (sym h.1) (subst (λ l. MayFollow engine start l e) (sym h.0) may)
-    | inr h ↦ legal.asked xs h.0 d h.1
-  ];
-}
 
 -- ---- own entries
 

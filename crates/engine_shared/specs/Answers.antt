@@ -1,6 +1,7 @@
 -- What the calls answer, and the replies that the history keeps of it. It is this project's own.
 use Rattle.std.specs.Prelude.{◌≡◌, ◌≢◌, ℕ, ◌+◌, ◌-◌, Bool, true, false, List, [], ◌∷◌, ◌++◌, length, replicate, Ok, Err, Result, ⊤}
 use Rattle.faults.specs.declared.NoMemory.{NoMemory}
+use Rattle.bitmap_kind.specs.declared.bitmaps.Config.{Config}
 use Rattle.bitmap_kind.specs.Picture.{Picture, BitmapValue}
 use Rattle.engine_world.specs.declared.events.NotedReply.{NotedReply}
 use Rattle.engine_world.specs.declared.events.NotedReply.TheVariants as replies
@@ -10,7 +11,6 @@ use Rattle.engine_world.specs.Steps.{piece_from}
 use Rattle.engine_world.specs.Knowledge.{OwnJob}
 use Rattle.engine_core.specs.declared.replies.Piece.{Piece}
 use Rattle.engine_core.specs.Noted.{lent_by}
-use Rattle.engine_shared.specs.Tokens.{HoldValue}
 use Rattle.engine_shared.specs.Caller.{Caller, RunsJob}
 use Rattle.engine_shared.specs.declared.answers.Full.{Full}
 use Rattle.engine_shared.specs.declared.answers.Outcome.{Outcome}
@@ -25,10 +25,10 @@ OfReply Fits Holds = (reply : NotedReply) × Fits reply × Holds reply
 -- ---- loads
 
 -- A load that is not refused was ready, joined a job or started one.
-abbrev pub IsLoaded : Result HoldValue Full → NotedReply → Type 0
-IsLoaded (Ok hold) replies.Ready = ⊤
-IsLoaded (Ok hold) (replies.Joined j) = ⊤
-IsLoaded (Ok hold) (replies.Started j) = ⊤
+abbrev pub IsLoaded : {A : Type 0} → Result A Full → NotedReply → Type 0
+IsLoaded (Ok given) replies.Ready = ⊤
+IsLoaded (Ok given) (replies.Joined j) = ⊤
+IsLoaded (Ok given) (replies.Started j) = ⊤
 IsLoaded (Err full) replies.Full = ⊤
 IsLoaded answer reply = ⊥
 
@@ -80,6 +80,12 @@ less_lent number job = record job { out = without_lent number job.out }
 abbrev pub IsOther : ℕ → List Lent → Type 0
 IsOther number [] = ⊤
 IsOther number (lent ∷ out) = (lent.number ≢ number) × IsOther number out
+
+-- A bitmap was lent with these sides and this config.
+pub record IsAsAsked (width height : ℕ) (config : Config) (lent : Lent) : Type 0 where
+  pub width_is : lent.width ≡ width
+  pub height_is : lent.height ≡ height
+  pub config_is : lent.config ≡ config
 
 -- a job of which was told whether it is cancelled
 abbrev pub with_told : Bool → OwnJob → OwnJob

@@ -1,5 +1,5 @@
 -- The laws of callers. They are this project's own.
-use Rattle.std.specs.Prelude.{◌≡◌, ◌↔◌, ℕ, true, List, ◌∷◌, [], ◌++◌, Some, Ok, IfSome}
+use Rattle.std.specs.Prelude.{◌≡◌, ◌↔◌, ℕ, ◌+◌, ◌≤◌, true, List, ◌∷◌, [], ◌++◌, Some, None, Ok, IfSome}
 use Rattle.std.specs.FinMap.{get, len}
 use Rattle.bitmap_kind.specs.declared.bitmaps.Config.{Config}
 use Rattle.bitmap_kind.specs.Picture.{Picture}
@@ -21,7 +21,9 @@ use Rattle.engine_world.specs.Laws.{IsRelease, NoRelease}
 use Rattle.engine_shared.specs.Tokens.{HoldValue}
 use Rattle.engine_shared.specs.Caller.{Caller, knowledge_of, content_of, quota_of, picture_held, Leads, IsPast, IsLegal, entry_of, IsCall, RunsJob, HasLoad, HasReadyLoad}
 use Rattle.engine_shared.specs.declared.answers.Next.TheVariants as nexts
-use Rattle.engine_shared.specs.Answers.{IsLoaded, IsNext, IsFresh, IsOther}
+use Rattle.engine_shared.specs.Answers.{IsLoaded, IsNext, IsFresh, IsOther, IsAsAsked}
+use Rattle.engine_shared.specs.Kinds.{IsNoLoad, IsOfNoJob, EndsJob}
+use Rattle.engine_shared.specs.Replied.{RepliesToLoad, RepliesToCollect, RepliesToLook, RepliesToRead, RepliesToTake}
 
 -- ---- one picture
 
@@ -57,6 +59,36 @@ StepsAreCalls =
     → Transition before old.who event reply after
     → IsCall old event reply (caller_after old others event reply after)
 
+-- ---- which replies a call has
+
+abbrev pub LoadsAreAnswered : Type 0
+LoadsAreAnswered =
+    (old new : Caller) (spec : LoadSpec) (reply : NotedReply) → IsCall old (events.Load spec) reply new
+    → RepliesToLoad reply
+
+-- A load that its caller has is ready, waits or has failed.
+abbrev pub CollectsAreAnswered : Type 0
+CollectsAreAnswered =
+    (old new : Caller) (hold : HoldValue) (reply : NotedReply) → HasLoad old hold
+    → IsCall old (events.Collect hold.number) reply new → RepliesToCollect reply
+
+-- One that was answered Ready shows a picture, of which a look and a read tell.
+abbrev pub LooksAreAnswered : Type 0
+LooksAreAnswered =
+    (old new : Caller) (hold : HoldValue) (reply : NotedReply) → HasReadyLoad old hold
+    → IsCall old (events.Look hold.number) reply new → RepliesToLook reply
+
+abbrev pub ReadsAreAnswered : Type 0
+ReadsAreAnswered =
+    (old new : Caller) (hold : HoldValue) (at : ℕ) (reply : NotedReply) → HasReadyLoad old hold
+    → IsCall old (events.Read hold.number at) reply new → RepliesToRead reply
+
+-- A take gives a bitmap, or memory is wanting.
+abbrev pub TakesAreAnswered : Type 0
+TakesAreAnswered =
+    (old new : Caller) (j width height : ℕ) (config : Config) (reply : NotedReply)
+    → IsCall old (events.Take j width height config) reply new → RepliesToTake reply
+
 -- ---- what follows from the entry of a call
 
 -- A load is refused exactly where its caller has as many as it may have.
@@ -84,6 +116,13 @@ TakesAnother =
     (old new : Caller) (job : OwnJob) (width height : ℕ) (config : Config) (lent : Lent) → RunsJob old job
     → IsCall old (events.Take job.number width height config) (replies.Taken lent) new
     → IsOther lent.number job.out
+
+-- And it has the sides and the config that were asked for.
+abbrev pub TakesAsAsked : Type 0
+TakesAsAsked =
+    (old new : Caller) (j width height : ℕ) (config : Config) (lent : Lent)
+    → IsCall old (events.Take j width height config) (replies.Taken lent) new
+    → IsAsAsked width height config lent
 
 -- A load that is answered Ready shows a picture.
 abbrev pub ReadyLoadsShow : Type 0
@@ -117,3 +156,28 @@ ReadyLoadsStay =
     (old new : Caller) (event : Event) (reply : NotedReply) (hold : HoldValue) → HasReadyLoad old hold
     → IsCall old event reply new → (IsRelease (old.who, hold.number) old.who event → ⊥)
     → HasReadyLoad new hold × (picture_held new hold.number ≡ picture_held old hold.number)
+
+-- ---- what a caller knows besides
+
+-- A load counts at most one more, and no other call counts one.
+abbrev pub LoadsAreCounted : Type 0
+LoadsAreCounted =
+    (old new : Caller) (spec : LoadSpec) (reply : NotedReply) → IsCall old (events.Load spec) reply new
+    → (knowledge_of new).begun ≤ (knowledge_of old).begun + 1
+
+abbrev pub OthersCountNone : Type 0
+OthersCountNone =
+    (old new : Caller) (event : Event) (reply : NotedReply) → IsNoLoad event → IsCall old event reply new
+    → (knowledge_of new).begun ≡ (knowledge_of old).begun
+
+-- A call that is of no job leaves the caller the job that it has, and one by which a job ends leaves it
+-- none.
+abbrev pub JobsStay : Type 0
+JobsStay =
+    (old new : Caller) (event : Event) (reply : NotedReply) → IsOfNoJob event → IsCall old event reply new
+    → (knowledge_of new).job ≡ (knowledge_of old).job
+
+abbrev pub JobsEnd : Type 0
+JobsEnd =
+    (old new : Caller) (event : Event) (reply : NotedReply) → EndsJob event → IsCall old event reply new
+    → (knowledge_of new).job ≡ None

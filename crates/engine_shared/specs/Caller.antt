@@ -19,6 +19,8 @@ use Rattle.engine_world.specs.Knowledge.{OwnLoad, OwnJob, Knowledge, knowledge_i
 use Rattle.engine_world.specs.Permits.{IsOwnReady, IsPicture}
 use Rattle.engine_world.specs.EngineMachine.{engine_machine}
 use Rattle.engine_world.specs.Laws.{IsRelease}
+use Rattle.engine_core.specs.declared.replies.Reply.{Reply}
+use Rattle.engine_core.specs.CoreView.{CoreValue, note_of}
 use Rattle.engine_shared.specs.Tokens.{HoldValue}
 
 -- A caller's seat, the history that it has seen, which ends with its last call, and the world that this
@@ -55,9 +57,9 @@ picture_held c n = shown_by c.world (get c.world.loads (c.who, n))
 abbrev pub noted : Event → NotedReply → Note
 noted event reply = record { event = event; reply = reply }
 
--- the engine's steps, as those of a machine of which nothing is kept but its world
-abbrev pub engine : Ghosts World Event NotedReply Note
-engine = engine_machine (λ w. w) (λ w. []) noted
+-- the engine's steps, as a core makes them
+abbrev pub engine : Ghosts CoreValue Event Reply Note
+engine = engine_machine (λ core. core.world) (λ core. core.history) note_of
 
 -- these steps lead from one world to the other
 abbrev pub Leads : World → List (Entry Note) → World → Type 0

@@ -5,6 +5,7 @@ pub use Rattle.engine_core.specs.Noted
 pub mod Tokens
 pub mod Caller
 pub mod Answers
+pub mod Kinds
 pub mod CallLaws
 pub mod Owned
 pub mod Replied

@@ -1,7 +1,5 @@
 -- An engine that one caller owns, whose seat is 0. It is this project's own.
-use Rattle.std.specs.Prelude.{◌≡◌, ℕ, ⊤}
-use Rattle.engine_world.specs.declared.events.Event.{Event}
-use Rattle.engine_world.specs.declared.events.Event.TheVariants as events
+use Rattle.std.specs.Prelude.{◌≡◌, ℕ}
 use Rattle.engine_core.specs.CoreView.{CoreValue}
 use Rattle.engine_shared.specs.Caller.{Caller, knowledge_of, IsLegal}
 
@@ -13,8 +11,3 @@ owner_of core = record { who = 0; seen = core.history; world = core.world }
 pub record IsOwned (core : CoreValue) (begun : ℕ) : Type 0 where
   pub legal : IsLegal (owner_of core)
   pub count : begun ≡ (knowledge_of (owner_of core)).begun
-
--- Any event but a load.
-abbrev pub IsNoLoad : Event → Type 0
-IsNoLoad (events.Load spec) = ⊥
-IsNoLoad event = ⊤

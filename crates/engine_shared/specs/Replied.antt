@@ -6,6 +6,13 @@ use Rattle.engine_shared.specs.declared.answers.Next.{Next}
 use Rattle.engine_shared.specs.declared.answers.Next.TheVariants as nexts
 use Rattle.engine_shared.specs.Answers.{IsFresh}
 
+abbrev pub RepliesToLoad : NotedReply → Type 0
+RepliesToLoad replies.Full = ⊤
+RepliesToLoad replies.Ready = ⊤
+RepliesToLoad (replies.Joined j) = ⊤
+RepliesToLoad (replies.Started j) = ⊤
+RepliesToLoad reply = ⊥
+
 abbrev pub RepliesToCollect : NotedReply → Type 0
 RepliesToCollect replies.Ready = ⊤
 RepliesToCollect (replies.NotYet j) = ⊤
@@ -15,6 +22,10 @@ RepliesToCollect reply = ⊥
 abbrev pub RepliesToLook : NotedReply → Type 0
 RepliesToLook (replies.Shape shape) = ⊤
 RepliesToLook reply = ⊥
+
+abbrev pub RepliesToRead : NotedReply → Type 0
+RepliesToRead (replies.Piece piece) = ⊤
+RepliesToRead reply = ⊥
 
 abbrev pub RepliesToNextJob : NotedReply → Type 0
 RepliesToNextJob (replies.Job j spec) = ⊤

@@ -11,5 +11,8 @@ mod tokens;
 pub use alone::Alone;
 pub use answers::{Full, Next, Outcome};
 pub use calls::EngineCalls;
-pub use laws::{calls_add_entries, calls_tell_what_they_add, holds_show_one_picture};
+pub use laws::{
+    calls_add_entries, calls_are_answered, calls_leave_the_rest, calls_tell_what_they_add,
+    holds_show_one_picture,
+};
 pub use tokens::{Hold, JobPass};

@@ -1,16 +1,29 @@
 // What the core's replies are as answers of the calls.
-ghost use Rattle.std.specs.Prelude.{◌≡◌};
+ghost use Rattle.std.specs.Prelude.{◌≡◌, take};
 ghost use Rattle.engine_world.specs.declared.events.NotedReply.TheVariants as notes;
 ghost use Rattle.engine_core.specs.Noted.{noted};
-ghost use Rattle.engine_shared.specs.Answers.{collected, IsNext, taken, finished};
-ghost use Rattle.engine_shared.specs.Replied.{RepliesToCollect, RepliesToLook, RepliesToNextJob, RepliesToTake, RepliesToFinish, RepliesToIsCancelled, RepliesToTotals, IsFreshNext};
+ghost use Rattle.engine_core.specs.Padded.{IsPadded, IsPaddedReply};
+ghost use Rattle.engine_shared.specs.Answers.{IsLoaded, collected, IsNext, taken, finished};
+ghost use Rattle.engine_shared.specs.Replied.{RepliesToLoad, RepliesToCollect, RepliesToLook, RepliesToRead, RepliesToNextJob, RepliesToTake, RepliesToFinish, RepliesToIsCancelled, RepliesToTotals, IsFreshNext};
 
-use crate::answers::{Next, Outcome};
+use crate::answers::{Full, Next, Outcome};
 use crate::tokens::JobPass;
 use bitmap_kind::Bitmap;
-use engine_core::Reply;
+use engine_core::{Piece, Reply};
 use engine_world::{Shape, Totals};
 use faults::NoMemory;
+
+/// Whether a load was not refused.
+pub fn was_loaded(reply: Reply) -> Result<(), Full>
+    requires { RepliesToLoad (noted reply) }
+    ensures { IsLoaded result (noted reply) }
+{
+    match reply {
+        Reply::Full => Err(Full),
+        Reply::Ready | Reply::Joined(_) | Reply::Started(_) => Ok(()),
+        _ => unreachable!(),
+    }
+}
 
 /// What a load has come to.
 pub fn outcome_of(reply: Reply) -> Outcome
@@ -32,6 +45,19 @@ pub fn shape_of(reply: Reply) -> Shape
 {
     match reply {
         Reply::Shape(shape) => shape,
+        _ => unreachable!(),
+    }
+}
+
+/// A piece of a picture's stored bytes.
+pub fn piece_of(reply: Reply) -> Piece
+    requires replies { RepliesToRead (noted reply) }
+    requires padded { IsPaddedReply reply }
+    ensures piece { notes.Piece (take result.count result.bytes) ≡ noted reply }
+    ensures padded { IsPadded result }
+{
+    match reply {
+        Reply::Piece(piece) => piece,
         _ => unreachable!(),
     }
 }

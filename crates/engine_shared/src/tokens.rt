@@ -42,6 +42,20 @@ impl Hold {
     }
 }
 
+impl Hold {
+    // Its number, when the load is over.
+    pub(crate) fn spend(self) -> u64
+        ensures { result ≡ self.number }
+    {
+        let Hold {
+            who: _,
+            number,
+            key: _,
+        } = self;
+        number
+    }
+}
+
 // Stands for bitmaps that were lent. Its own value has none.
 #[derive(Drop)]
 struct NoneLent {}

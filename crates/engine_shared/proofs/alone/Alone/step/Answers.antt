@@ -8,4 +8,4 @@ pub call-requires-clause-permits : goal.call-requires-clause-permits
 call-requires-clause-permits c = subst (λ (o : Caller). Permits (content_of o) (knowledge_of o) c.args.event) (sym c.self.view_is) c.requires.permits
 
 pub invariant_of-self : goal.invariant_of-self
-invariant_of-self c = stays_owned c.self.inside.core c.call.new.core c.self.inside.begun c.args.event _ c.self.invariant c.requires.other c.call.ensures
+invariant_of-self c = stays_owned c.self.inside.core c.call.new.core c.self.inside.begun c.args.event _ c.self.invariant c.requires.other c.call.ensures.entry
