@@ -4,6 +4,7 @@ pub mod Agree
 pub mod BadCommands
 pub mod Live
 pub mod Orderly
+pub mod Together
 pub mod Licence
 pub mod Realize
 pub mod Tracked

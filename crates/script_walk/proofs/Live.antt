@@ -16,7 +16,7 @@ pub times-append : (n : ℕ) (xs ys : List Begin) → times n (xs ++ ys) ≡ tim
 times-append n [] ys = omega arith
 times-append n (x ∷ xs) ys = omega (arith, times-append n xs ys)
 
-in_left : (b : Begin) (xs ys : List Begin) → In b xs → In b (xs ++ ys)
+pub in_left : (b : Begin) (xs ys : List Begin) → In b xs → In b (xs ++ ys)
 in_left b [] ys h = absurd h
 in_left b (x ∷ xs) ys h = elim h [ inl is ↦ inl is | inr is ↦ inr (in_left b xs ys is) ]
 
@@ -24,7 +24,7 @@ pub in_right : (b : Begin) (xs ys : List Begin) → In b ys → In b (xs ++ ys)
 in_right b [] ys h = h
 in_right b (x ∷ xs) ys h = inr (in_right b xs ys h)
 
-in_parts : (b : Begin) (xs ys : List Begin) → In b (xs ++ ys) → In b xs ⊎ In b ys
+pub in_parts : (b : Begin) (xs ys : List Begin) → In b (xs ++ ys) → In b xs ⊎ In b ys
 in_parts b [] ys h = inr h
 in_parts b (x ∷ xs) ys h = elim h [ inl is ↦ inl (inl is) | inr is ↦ elim (in_parts b xs ys is) [ inl l ↦ inl (inr l) | inr r ↦ inr r ] ]
 

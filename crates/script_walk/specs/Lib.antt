@@ -3,6 +3,7 @@ pub mod Ends
 pub mod Marks
 pub mod Starts
 pub mod Orderly
+pub mod Together
 pub mod Tracked
 pub mod ByPlace
 pub mod Laws

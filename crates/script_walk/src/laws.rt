@@ -2,6 +2,7 @@
 ghost use Rattle.script_walk.specs.Laws.{NoMarksNoFailures, EndsDecide, TracesAreOrderly, EndsAreBegun, StopsAtBadCommand, WalksGoOn, RunsAreWalks, EndsAtNextGather, BlamesAreEnds, NoneCached};
 ghost use Rattle.script_walk.specs.Tracked.{TrackerMakesTheMoves};
 ghost use Rattle.script_walk.specs.ByPlace.{MovesGoByPlace};
+ghost use Rattle.script_walk.specs.Together.{BeginsRunTogether};
 
 /// Without marks a walk shows what each key comes to.
 pub fn no_marks_no_failures()
@@ -63,4 +64,9 @@ pub fn blamed_sources_failed()
 /// A begin says `cached` only where a load does.
 pub fn begins_are_cached_by_loads()
     ensures { NoneCached }
+{}
+
+/// The begins of a walk that run at the same time were made after the same gather.
+pub fn begins_run_together()
+    ensures { BeginsRunTogether }
 {}
