@@ -1,0 +1,7 @@
+pub mod Findable
+pub mod InMemory
+pub mod Follows
+pub mod Costs
+pub mod Answered
+pub mod Laws
+pub mod Worked

@@ -1,0 +1,59 @@
+// The laws, each as the contract of a function that does nothing but call the laws that it follows from.
+ghost use Rattle.engine_world.specs.declared.events.Event.{Event};
+ghost use Rattle.fetch_bounds.specs.Answered.{OrdersAreTheTraces, EndsAreAnswered, LinesAreAnswered};
+ghost use Rattle.fetch_bounds.specs.Laws.{SharedLoadsStartNoJob, OpensFindable, KeepsFindable, KeepsAllRemembered, KeepsPictures, RunsAreBounded, FailedJobsSuffice};
+
+use cache_key::same_key_is_equality;
+use engine_world::{each_event_keeps_opening, each_event_keeps_sound, each_history_is_sound};
+use script_walk::{begins_run_together, traces_are_orderly};
+
+/// A load of a picture that another load has, or waits for, starts no job, as long as all loads of its key ask memory and may
+/// ask the source.
+pub fn loads_are_shared()
+    ensures shared { SharedLoadsStartNoJob }
+    ensures opening { OpensFindable }
+    ensures event { (event : Event) → KeepsFindable event }
+{
+    same_key_is_equality();
+}
+
+/// Where all pictures fit into the memory cache, one that is there stays there through each event but a trim.
+pub fn pictures_stay_in_memory()
+    ensures among { (event : Event) → KeepsAllRemembered event }
+    ensures stay { (event : Event) → KeepsPictures event }
+{
+    same_key_is_equality();
+    each_event_keeps_opening();
+}
+
+/// A history that follows a trace has its begins and trims as seat 0's loads and trims, in order, and what came to an end or
+/// was printed was answered so.
+pub fn followed_traces_are_answered()
+    ensures orders { OrdersAreTheTraces }
+    ensures ends { EndsAreAnswered }
+    ensures lines { LinesAreAnswered }
+{}
+
+/// A run starts no more jobs than its walk has starts, besides those for begins that ask the caches alone. The jobs that may
+/// ask their source, and those of them that are run, are no more than the starts. Each begin is a load, and none is left.
+pub fn runs_are_bounded<M, R>()
+    ensures { RunsAreBounded M R }
+{
+    same_key_is_equality();
+    each_event_keeps_sound();
+    each_event_keeps_opening();
+    each_history_is_sound::<M, R>();
+    traces_are_orderly();
+}
+
+/// Begins that failed by their source need no more failed fetches than jobs failed so, of each url and signature.
+pub fn failed_jobs_suffice<M, R>()
+    ensures { FailedJobsSuffice M R }
+{
+    same_key_is_equality();
+    each_event_keeps_sound();
+    each_event_keeps_opening();
+    each_history_is_sound::<M, R>();
+    traces_are_orderly();
+    begins_run_together();
+}
