@@ -22,4 +22,5 @@ mod Running
 mod Bounds
 mod Remembered
 mod Answered
+mod Parts
 mod Licence

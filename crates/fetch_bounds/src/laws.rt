@@ -1,6 +1,7 @@
 // The laws, each as the contract of a function that does nothing but call the laws that it follows from.
 ghost use Rattle.engine_world.specs.declared.events.Event.{Event};
 ghost use Rattle.fetch_bounds.specs.Answered.{OrdersAreTheTraces, EndsAreAnswered, LinesAreAnswered};
+ghost use Rattle.fetch_bounds.specs.Parts.{TracesJoin};
 ghost use Rattle.fetch_bounds.specs.Laws.{SharedLoadsStartNoJob, OpensFindable, KeepsFindable, KeepsAllRemembered, KeepsPictures, RunsAreBounded, FailedJobsSuffice};
 
 use cache_key::same_key_is_equality;
@@ -25,6 +26,11 @@ pub fn pictures_stay_in_memory()
     same_key_is_equality();
     each_event_keeps_opening();
 }
+
+/// A history that follows one part of a trace, and then one that follows the next part, follow both together.
+pub fn followed_traces_join()
+    ensures { TracesJoin }
+{}
 
 /// A history that follows a trace has its begins and trims as seat 0's loads and trims, in order, and what came to an end or
 /// was printed was answered so.
