@@ -306,8 +306,11 @@ module _ (laws : JournalLaws) where
       moved_but : SameBut key f g
       moved_but name j v e = ap (λ c. get c name) moved_is ∙ get_other _ (value_name key) _ name v ∙ gone_other f (edit_name key) name e
 
+      pub moved_journal : get g journal_name ≡ get f journal_name
+      moved_journal = ap (λ c. get c journal_name) moved_is ∙ get_other _ (value_name key) _ journal_name (journal-value key) ∙ gone_other f (edit_name key) journal_name (journal-edit key)
+
       pub moved_says : Says g (mapped in_journal t)
-      moved_says = says_same f g _ (ap (λ c. get c journal_name) moved_is ∙ get_other _ (value_name key) _ journal_name (journal-value key) ∙ gone_other f (edit_name key) journal_name (journal-edit key)) s.says
+      moved_says = says_same f g _ moved_journal s.says
 
       moved_now : readable g (mapped in_journal t) ≡ offers (listed f t)
       moved_now = readable_hidden f g key t n s.once open' (other_values f g key moved_but) ∙ sym (offers-listed f t (valued f t s.files))
@@ -384,6 +387,9 @@ module _ (laws : JournalLaws) where
 
       cut_but : SameBut key f g
       cut_but name j v e = cut_same' name e
+
+      pub cut_journal : get g journal_name ≡ get f journal_name
+      cut_journal = cut_same' journal_name (journal-edit key)
 
       pub cut_says : Says g (mapped in_journal t)
       cut_says = says_same f g _ (cut_same' journal_name (journal-edit key)) s.says
@@ -512,6 +518,9 @@ module _ (laws : JournalLaws) where
 
       gone_but : SameBut key f g
       gone_but name j v e = gone_same' name v
+
+      pub gone_journal : get g journal_name ≡ get f journal_name
+      gone_journal = gone_same' journal_name (journal-value key)
 
       pub gone_says : Says g (mapped in_journal t)
       gone_says = says_same f g _ (gone_same' journal_name (journal-value key)) s.says

@@ -48,11 +48,11 @@ module _ (laws : JournalLaws) where
 
   -- ---- one line more
 
-  text_of-append : (lines : List Line) (line : Line) → text_of (lines ++ line ∷ []) ≡ text_of lines ++ ended (spelled line)
+  pub text_of-append : (lines : List Line) (line : Line) → text_of (lines ++ line ∷ []) ≡ text_of lines ++ ended (spelled line)
   text_of-append [] line = append-nil (ended (spelled line))
   text_of-append (l ∷ lines) line = ap (λ t. ended (spelled l) ++ t) (text_of-append lines line) ∙ sym (append_assoc (ended (spelled l)) (text_of lines) (ended (spelled line)))
 
-  good-append : (lines : List Line) (line : Line) → AllByRecursion IsLine lines → IsLine line → AllByRecursion IsLine (lines ++ line ∷ [])
+  pub good-append : (lines : List Line) (line : Line) → AllByRecursion IsLine lines → IsLine line → AllByRecursion IsLine (lines ++ line ∷ [])
   good-append [] line h k = (k, tt)
   good-append (l ∷ lines) line h k = (h.0, good-append lines line h.1 k)
 

@@ -132,6 +132,9 @@ module _ (t : TableValue) (written : List ℕ) (u : CacheTableValue) (new : Tabl
   pub others_after : (k : List ℕ) → k ≢ key → edit_of k new.edits ≡ edit_of k u.table.edits
   others_after k ne = ap (λ (v : TableValue). edit_of k v.edits) closes_key ∙ closed_other key k t.edits n ne was_open ∙ ap (λ (v : CacheTableValue). edit_of k v.table.edits) same
 
+  pub lines_after : new.lines ≡ counted u.table.lines
+  lines_after = ap (λ (v : TableValue). v.lines) closes_key ∙ ap (λ (v : CacheTableValue). counted v.table.lines) same
+
   abbrev after : kept (record { table = new; written = written }) ≡ mapped (kept_by (set t.edits n None) written) (ended_with key len t.entries)
   after = ap (λ (v : TableValue). kept (record { table = v; written = written })) closes_key
 
@@ -191,3 +194,17 @@ forgotten_after t written key = by (is_known key t.entries) refl where
 
 pub few_kept : (t : CacheTableValue) (u : Table) → kept t ≡ u → length t.table.entries ≤ 16400 → length u ≤ 16400
 few_kept t u same few = subst (λ (l : Table). length l ≤ 16400) same (subst (λ n. n ≤ 16400) (sym (length_mapped (kept_by t.table.edits t.written) t.table.entries)) few)
+
+-- ---- what is known, and the lines of those
+
+pub known_kept : (t : CacheTableValue) (key : List ℕ) → is_known key (kept t) ≡ is_known key t.table.entries
+known_kept t key = ap is_some (value_at-mapped (kept_by t.table.edits t.written) key t.table.entries) ∙ by (value_at key t.table.entries) where
+  by : (o : Option (Option ℕ)) → is_some (option_map (kept_by t.table.edits t.written key) o) ≡ is_some o
+  by None = refl
+  by (Some len) = refl
+
+pub touched_lines : (t : TableValue) (key : List ℕ) → is_known key t.entries ≡ true → (touched key t).lines ≡ counted t.lines
+touched_lines t key known = ap (λ b. let u : TableValue = cond b (let now : TableValue = record t { entries = used key t.entries; lines = counted t.lines } in now) t in u.lines) known
+
+pub forgotten_lines : (t : TableValue) (key : List ℕ) → is_known key t.entries ≡ true → (forgotten key t).lines ≡ counted t.lines
+forgotten_lines t key known = ap (λ b. let u : TableValue = cond b (let now : TableValue = record t { entries = without key t.entries; lines = counted t.lines } in now) t in u.lines) known

@@ -1,6 +1,7 @@
 pub mod Allowed
 pub mod Apart
 pub mod Calls
+pub mod Counting
 pub mod Edits
 pub mod Folders
 pub mod Journaled

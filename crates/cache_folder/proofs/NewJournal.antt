@@ -74,7 +74,7 @@ module _ (laws : JournalLaws) where
   good_for key (Some n) (Some w) f h = h.key
   good_for key (Some n) None f h = (h.key, h.value.0)
 
-  good_lines : (f : Folder) (t : Table) → AllByRecursion (Fits f) t → AllByRecursion IsLine (lines_for t)
+  pub good_lines : (f : Folder) (t : Table) → AllByRecursion (Fits f) t → AllByRecursion IsLine (lines_for t)
   good_lines f [] h = tt
   good_lines f (e ∷ t) h = (good_for e.0 e.1.len e.1.edit f h.0, good_lines f t h.1)
 
@@ -193,6 +193,9 @@ module _ (laws : JournalLaws) where
 
           end_entries : SameEntries f end
           end_entries name j tm b = deleted_other laws n journal_bkp name b ∙ ap (λ c. get c name) (is'' ∙ placed_is) ∙ n_entries name j tm b
+
+          pub end_text : get end journal_name ≡ Some new_text
+          end_text = deleted_other laws n journal_bkp journal_name journal-bkp ∙ ap (λ c. get c journal_name) (is'' ∙ placed_is) ∙ get_same _ journal_name new_text
 
           end_says : Says end (mapped in_journal t)
           end_says = says_same laws _ end _ (deleted_other laws n journal_bkp journal_name journal-bkp ∙ ap (λ c. get c journal_name) (is'' ∙ placed_is)) n_says

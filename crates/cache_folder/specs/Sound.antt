@@ -1,6 +1,6 @@
 -- What holds between the files of a disk cache and its table. The names and the journal are DiskLruCache's; that this is
 -- what must hold at every moment is this project's own.
-use Rattle.std.specs.Prelude.{◌≡◌, ◌≢◌, ◌⊎◌, ℕ, true, ◌<◌, ◌≤◌, ◌^◌, List, [], length, Some, None, ⊤, is_some, option_and_then, unwrap_or}
+use Rattle.std.specs.Prelude.{◌≡◌, ◌≢◌, ◌⊎◌, ℕ, true, ◌+◌, ◌<◌, ◌≤◌, ◌^◌, List, [], length, Some, None, ⊤, is_some, option_and_then, unwrap_or}
 use Rattle.std.specs.declared.option.Option.{Option}
 use Rattle.std.specs.List.{AllByRecursion}
 use Rattle.std.specs.FinMap.{get}
@@ -8,7 +8,7 @@ use Rattle.outside.specs.Files.{Folder, FolderHistory}
 use Rattle.journal_lines.specs.Keys.{is_key}
 use Rattle.disk_table.specs.UseOrder.{IsOnce}
 use Rattle.cache_folder.specs.Offered.{journal_name, journal_tmp, journal_bkp, value_name, edit_name, offered}
-use Rattle.cache_folder.specs.Journals.{Says}
+use Rattle.cache_folder.specs.Journals.{Says, line_count}
 use Rattle.cache_folder.specs.Steps.{Entry, Cached, CacheStep, Restore, Drop, stepped, offers}
 use Rattle.cache_folder.specs.Images.{IfKnown, Runs, OffersEither}
 use Rattle.cache_folder.specs.Tables.{Kept, Table, mapped, in_journal}
@@ -99,3 +99,13 @@ Ways key table step before after =
 abbrev pub Does : Table → (Folder → CacheStep (List ℕ)) → Table → Option FolderHistory → Option FolderHistory → Type 0
 Does table step table' before after =
     IfKnown before (λ h. Done after table' (stepped (listed h.held table) (step h.held)))
+
+-- the journal has so many lines more
+abbrev pub AddsLines : ℕ → Option FolderHistory → Option FolderHistory → Type 0
+AddsLines more before after =
+    IfKnown before (λ h. IfKnown after (λ k. line_count k.held ≡ line_count h.held + more))
+
+-- the value of the key may be gone, and the journal may differ: all other files are as they were
+pub record MayLose (key : List ℕ) (old new : Folder) : Type 0 where
+  pub value : (get new (value_name key) ≡ get old (value_name key)) ⊎ (get new (value_name key) ≡ None)
+  pub others : (name : List ℕ) → name ≢ journal_name → name ≢ value_name key → get new name ≡ get old name

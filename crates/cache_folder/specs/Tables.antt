@@ -1,13 +1,13 @@
 -- The table of a disk cache with its open edits: what the cache keeps of each key, the eldest first, and what the calls make of
 -- it. It is this project's own view of what DiskLruCache keeps in memory.
-use Rattle.std.specs.Prelude.{ℕ, Bool, not, ◌&&◌, List, [], ◌∷◌, Some, None, get_or, is_some, option_and_then, if◌then◌else◌}
+use Rattle.std.specs.Prelude.{◌≡◌, ℕ, Bool, not, ◌&&◌, List, [], ◌∷◌, Some, None, get_or, is_some, option_and_then, if◌then◌else◌}
 use Rattle.std.specs.declared.option.Option.{Option}
 use Rattle.std.specs.Option.{option_map}
 use Rattle.std.specs.Str.{bytes_eq}
 use Rattle.journal_lines.specs.declared.lines.Line.{Line}
 use Rattle.journal_lines.specs.declared.lines.Line.TheVariants.{Dirty, Clean, Remove}
 use Rattle.disk_table.specs.UseOrder.{Entries, without, value_at, newest}
-use Rattle.disk_table.specs.Table.{TableValue, edit_of}
+use Rattle.disk_table.specs.Table.{TableValue, counted, edit_of}
 
 -- what is kept of a key: the length of its readable value, and how many bytes its open edit has
 pub record Kept : Type 0 where
@@ -35,6 +35,10 @@ kept_by edits written key len = record { len = len; edit = option_map (λ number
 -- what it keeps of each key
 abbrev pub kept : CacheTableValue → Table
 kept t = mapped (kept_by t.table.edits t.written) t.table.entries
+
+-- one line of the journal was counted
+abbrev pub CountsLine : CacheTableValue → CacheTableValue → Type 0
+CountsLine old new = new.table.lines ≡ counted old.table.lines
 
 -- ---- what a key has
 

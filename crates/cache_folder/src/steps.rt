@@ -10,7 +10,7 @@ ghost use Rattle.cache_folder.specs.Offered.{journal_name, edit_name};
 ghost use Rattle.cache_folder.specs.Steps.{Doubt, Commit, Use, Drop, stepped};
 ghost use Rattle.cache_folder.specs.Images.{IfKnown, WasKnown, Runs};
 ghost use Rattle.cache_folder.specs.Tables.{kept, begun, committed, aborted, grown_edit, line_back, edit_at, len_at};
-ghost use Rattle.cache_folder.specs.Sound.{IsSound, Way, Ways, Does, Done, listed, abort_step, text_at};
+ghost use Rattle.cache_folder.specs.Sound.{IsSound, AddsLines, MayLose, Way, Ways, Does, Done, listed, abort_step, text_at};
 
 use crate::names;
 use crate::table::CacheTable;
@@ -43,6 +43,7 @@ pub fn begin<F: Files>(
     ensures ways { Ways key.now (kept _before.now.value) (λ f. Doubt key.now) (F.history files.old) (F.history files.new) }
     ensures ok { IsOk result → Does (kept _before.now.value) (λ f. Doubt key.now) (begun key.now (kept _before.now.value)) (F.history files.old) (F.history files.new) }
     ensures empty { IsOk result → IfKnown (F.history files.old) (λ h. IfKnown (F.history files.new) (λ k. text_at k.held (edit_name key.now) ≡ [])) }
+    ensures lines { IsOk result → AddsLines 1 (F.history files.old) (F.history files.new) }
     ensures known { WasKnown (F.history files.old) (F.history files.new) }
     ensures cause { HasCause (F.faults files.old) (F.faults files.new) (result ≡ Err FileFault.Failed) }
 {
@@ -65,6 +66,7 @@ pub fn commit<F: Files>(
     requires sound { IfKnown (F.history files.old) (λ h. IsSound h.held (kept table.now)) }
     ensures ways { Ways key.now (kept table.now) (λ f. Commit key.now (text_at f (edit_name key.now))) (F.history files.old) (F.history files.new) }
     ensures ok { IsOk result → Does (kept table.now) (λ f. Commit key.now (text_at f (edit_name key.now))) (committed key.now written (kept table.now)) (F.history files.old) (F.history files.new) }
+    ensures lines { IsOk result → AddsLines 1 (F.history files.old) (F.history files.new) }
     ensures known { WasKnown (F.history files.old) (F.history files.new) }
     ensures cause { HasCause (F.faults files.old) (F.faults files.new) (result ≡ Err FileFault.Failed) }
 {
@@ -99,6 +101,7 @@ pub fn abort<F: Files>(
     requires sound { IfKnown (F.history files.old) (λ h. IsSound h.held (kept table.now)) }
     ensures ways { Ways key.now (kept table.now) (λ f. abort_step old key.now) (F.history files.old) (F.history files.new) }
     ensures ok { IsOk result → Does (kept table.now) (λ f. abort_step old key.now) (aborted old key.now (kept table.now)) (F.history files.old) (F.history files.new) }
+    ensures lines { IsOk result → AddsLines 1 (F.history files.old) (F.history files.new) }
     ensures known { WasKnown (F.history files.old) (F.history files.new) }
     ensures cause { HasCause (F.faults files.old) (F.faults files.new) (result ≡ Err FileFault.Failed) }
 {
@@ -120,6 +123,7 @@ pub fn touch<F: Files>(
     requires sound { IfKnown (F.history files.old) (λ h. IsSound h.held (kept table.now)) }
     ensures ways { Ways key.now (kept table.now) (λ f. Use key.now) (F.history files.old) (F.history files.new) }
     ensures ok { IsOk result → Does (kept table.now) (λ f. Use key.now) (used key.now (kept table.now)) (F.history files.old) (F.history files.new) }
+    ensures lines { IsOk result → AddsLines 1 (F.history files.old) (F.history files.new) }
     ensures known { WasKnown (F.history files.old) (F.history files.new) }
     ensures cause { HasCause (F.faults files.old) (F.faults files.new) (result ≡ Err FileFault.Failed) }
 {
@@ -138,6 +142,8 @@ pub fn remove<F: Files>(
     requires sound { IfKnown (F.history files.old) (λ h. IsSound h.held (kept table.now)) }
     ensures ways { Ways key.now (kept table.now) (λ f. Drop key.now) (F.history files.old) (F.history files.new) }
     ensures ok { IsOk result → Does (kept table.now) (λ f. Drop key.now) (without key.now (kept table.now)) (F.history files.old) (F.history files.new) }
+    ensures lines { IsOk result → AddsLines 1 (F.history files.old) (F.history files.new) }
+    ensures left { IfKnown (F.history files.old) (λ h. IfKnown (F.history files.new) (λ k. MayLose key.now h.held k.held)) }
     ensures known { WasKnown (F.history files.old) (F.history files.new) }
     ensures cause { HasCause (F.faults files.old) (F.faults files.new) (result ≡ Err FileFault.Failed) }
 {
@@ -162,6 +168,7 @@ pub fn write<F: Files>(
     ensures ways { IfKnown (F.history files.old) (λ h. Runs (Way key.now h.held (listed h.held (kept table.now)) (listed h.held (kept table.now))) h (F.history files.new)) }
     ensures ok { IsOk result → IfKnown (F.history files.old) (λ h. Done (F.history files.new) (grown_edit key.now (written + length bytes.now) (kept table.now)) (listed h.held (kept table.now))) }
     ensures text { IsOk result → IfKnown (F.history files.old) (λ h. IfKnown (F.history files.new) (λ k. text_at k.held (edit_name key.now) ≡ text_at h.held (edit_name key.now) ++ bytes.now)) }
+    ensures lines { IsOk result → AddsLines 0 (F.history files.old) (F.history files.new) }
     ensures known { WasKnown (F.history files.old) (F.history files.new) }
     ensures cause { HasCause (F.faults files.old) (F.faults files.new) (result ≡ Err FileFault.Failed) }
 {

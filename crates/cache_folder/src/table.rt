@@ -4,9 +4,9 @@ ghost use lib.ListN.{replicate};
 ghost use Rattle.journal_lines.specs.Keys.{is_key};
 ghost use Rattle.journal_lines.specs.Lines.{spelled, HasShortLengths};
 ghost use Rattle.journal_lines.specs.Journal.{header, ended, text_of};
-ghost use Rattle.disk_table.specs.UseOrder.{IsShort, without, used};
+ghost use Rattle.disk_table.specs.UseOrder.{IsShort, is_known, without, used};
 ghost use Rattle.disk_table.specs.Table.{no_entries, edit_of, free_edit, is_full_for, is_under_edit, eldest_over, is_due};
-ghost use Rattle.cache_folder.specs.Tables.{kept, len_at, edit_at, is_offered, begun, committed, aborted, grown_edit, hidden, line_for, lines_for};
+ghost use Rattle.cache_folder.specs.Tables.{CountsLine, kept, len_at, edit_at, is_offered, begun, committed, aborted, grown_edit, hidden, line_for, lines_for};
 
 use disk_table::{DiskTable, EditRefused};
 use faults::NoMemory;
@@ -52,6 +52,13 @@ impl CacheTable {
         ensures short { IsShort result }
     {
         self.table.clean(key)
+    }
+
+    /// Whether the key has an entry.
+    pub fn knows(&self, key: &Key) -> bool
+        ensures { result ≡ is_known key.now (kept self.now) }
+    {
+        self.table.knows(key)
     }
 
     /// The open edit of the key, by its number.
@@ -110,6 +117,7 @@ impl CacheTable {
         ensures open { IfOk result (λ number. edit_of key.now self.new.table.edits ≡ Some number) }
         ensures within { IfOk result (λ number. number < 16) }
         ensures few { IfOk result (λ number. length (begun key.now (kept self.old)) ≤ 16400) }
+        ensures lines { IfOk result (λ number. CountsLine self.old self.new) }
         ensures busy { (number : ℕ) → IsErrOf result (EditRefused.Busy number) ↔ (edit_of key.now self.old.table.edits ≡ Some number) }
         ensures too_many { IsErrOf result EditRefused.TooMany ↔ (is_full_for key.now self.old.table ≡ true) }
         ensures err { OnErr result (self.new ≡ self.old) }
@@ -139,6 +147,7 @@ impl CacheTable {
         ensures edits { self.new.table.edits ≡ set self.old.table.edits number None }
         ensures closed { edit_of key.now self.new.table.edits ≡ None }
         ensures others { (k : List ℕ) → k ≢ key.now → edit_of k self.new.table.edits ≡ edit_of k self.old.table.edits }
+        ensures lines { CountsLine self.old self.new }
     {
         self.table.close_edit(number, Some(length));
     }
@@ -152,6 +161,7 @@ impl CacheTable {
         ensures edits { self.new.table.edits ≡ set self.old.table.edits number None }
         ensures closed { edit_of key.now self.new.table.edits ≡ None }
         ensures others { (k : List ℕ) → k ≢ key.now → edit_of k self.new.table.edits ≡ edit_of k self.old.table.edits }
+        ensures lines { CountsLine self.old self.new }
     {
         self.table.close_edit(number, old);
     }
@@ -160,6 +170,7 @@ impl CacheTable {
     pub fn touch(&mut self, key: &Key)
         ensures kept { kept self.new ≡ used key.now (kept self.old) }
         ensures edits { self.new.table.edits ≡ self.old.table.edits }
+        ensures lines { is_known key.now (kept self.old) ≡ true → CountsLine self.old self.new }
     {
         self.table.touch(key);
     }
@@ -169,6 +180,7 @@ impl CacheTable {
         ensures kept { kept self.new ≡ without key.now (kept self.old) }
         ensures closed { edit_of key.now self.new.table.edits ≡ None }
         ensures others { (k : List ℕ) → k ≢ key.now → edit_of k self.new.table.edits ≡ edit_of k self.old.table.edits }
+        ensures lines { is_known key.now (kept self.old) ≡ true → CountsLine self.old self.new }
     {
         match self.table.edit_of(key) {
             Some(number) => self.table.close_edit(number, None),

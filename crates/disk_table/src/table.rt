@@ -103,6 +103,13 @@ impl DiskTable {
         self.order.clean(key)
     }
 
+    /// Whether the key has an entry.
+    pub fn knows(&self, key: &Key) -> bool
+        ensures { result ≡ is_known key.now self.now.entries }
+    {
+        self.order.find(key).is_some()
+    }
+
     /// The open edit of the key, by its number from 0 to 15.
     pub fn edit_of(&self, key: &Key) -> Option<u64>
         ensures number { result ≡ edit_of key.now self.now.edits }

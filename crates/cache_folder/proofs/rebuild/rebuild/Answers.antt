@@ -23,3 +23,9 @@ returns-clause-ok g c = λ ok h e.
 
 pub returns-clause-known : goal.returns-clause-known
 returns-clause-known g c = λ k e. let mid = c.swap.ensures.known k e in c.write_new.ensures.known mid.0 mid.1
+
+pub returns-clause-lines : goal.returns-clause-lines
+returns-clause-lines g c = λ ok m e'.
+    let mid = c.swap.ensures.known m e' in
+    let first = c.write_new.ensures.known mid.0 mid.1 in
+    c.swap.ensures.lines ok first.0 (ap g.F.Files.history c.of-before.ensures ∙ first.1) mid.0 mid.1 m e'

@@ -5,6 +5,9 @@ use Rattle.cache_folder.specs.Tables.{kept}
 use Rattle.cache_folder.specs.Sound.{text_at}
 use Rattle.cache_folder.proofs.Runs.{one, two, two_ok, known_back, same_some}
 use Rattle.cache_folder.proofs.Calls.{begin_here, begin_images, begin_between, begin_made, begin_sound, begin_list, begin_text}
+use Rattle.journal_lines.specs.declared.lines.Line.TheVariants.{Dirty}
+use Rattle.cache_folder.specs.Journals.{line_count}
+use Rattle.cache_folder.proofs.Counting.{count_begun}
 use Rattle.cache_folder.proofs.steps.begin.Goals as goal
 
 pub add_line-requires-clause-journal : goal.add_line-requires-clause-journal
@@ -33,3 +36,7 @@ returns-clause-empty g c = λ ok h e k e'. ap (λ (m : FolderHistory). text_at m
 
 pub returns-clause-known : goal.returns-clause-known
 returns-clause-known g c = λ k e. let mid = known_back _ _ _ _ c.make.ensures.files k e in known_back _ _ _ _ c.add_line.ensures.files mid.0 mid.1
+
+pub returns-clause-lines : goal.returns-clause-lines
+returns-clause-lines g c = λ ok h e k e'. ap (λ (m : FolderHistory). line_count m.held) (same_some _ _ (sym e' ∙ two_ok _ _ h _ _ _ _ _ e c.add_line.ensures.files (ap is_ok c.in_ok-add_line.was) (subst (λ (n : List ℕ). Changes (made n) (g.F.Files.history c.add_line.new.files) (g.F.Files.history c.make.new.self) c.make.result) c.edit-edit.ensures.name c.make.ensures.files) ok))
+    ∙ count_begun (record { text = c.text_is_its_lines.ensures.text; unbroken = c.text_is_its_lines.ensures.unbroken }) h.held _ (c.requires.sound h e).says (Dirty c.args.key.now) c.args.key.now c.edit-edit.ensures.key

@@ -1,4 +1,4 @@
-use Rattle.std.proofs.Common.{◌≡◌, ℕ, List, Some, refl, ap, subst, ◌∙◌, is_ok, IsSome, is_some}
+use Rattle.std.proofs.Common.{◌≡◌, ℕ, List, Some, refl, sym, ap, subst, ◌∙◌, is_ok, IsSome, is_some}
 use Rattle.std.specs.declared.option.Option.{Option}
 use Rattle.std.specs.FinMap.{get}
 use Rattle.outside.specs.Files.{Folder, FolderHistory, Changes, renamed}
@@ -8,8 +8,11 @@ use Rattle.cache_folder.specs.Images.{Runs}
 use Rattle.cache_folder.specs.Tables.{Table, kept, edit_at}
 use Rattle.cache_folder.specs.Sound.{Way, IsSound, listed, text_at}
 use Rattle.cache_folder.proofs.Journaled.{JournalLaws}
-use Rattle.cache_folder.proofs.Runs.{one, two, two_ok, at_middle, known_back}
-use Rattle.cache_folder.proofs.Calls.{CommitWay, handed_is, commit_here, commit_moved, moved_says, commit_between, commit_images, commit_sound, commit_list}
+use Rattle.cache_folder.proofs.Runs.{one, two, two_ok, at_middle, known_back, same_some}
+use Rattle.cache_folder.proofs.Calls.{CommitWay, handed_is, commit_here, commit_moved, moved_journal, moved_says, commit_between, commit_images, commit_sound, commit_list}
+use Rattle.journal_lines.specs.declared.lines.Line.TheVariants.{Clean}
+use Rattle.cache_folder.specs.Journals.{line_count}
+use Rattle.cache_folder.proofs.Counting.{count_later}
 use Rattle.cache_folder.proofs.steps.commit.Goals as goal
 
 -- the way of a commit, with the bytes that the edit's file has
@@ -40,3 +43,7 @@ returns-clause-ok g c = λ ok h e. record {
 
 pub returns-clause-known : goal.returns-clause-known
 returns-clause-known g c = λ k e. let mid = known_back _ _ _ _ c.add_line.ensures.files k e in known_back _ _ _ _ c.rename.ensures.files mid.0 mid.1
+
+pub returns-clause-lines : goal.returns-clause-lines
+returns-clause-lines g c = λ ok h e k e'. ap (λ (m : FolderHistory). line_count m.held) (same_some _ _ (sym e' ∙ two_ok _ _ h _ _ _ _ _ e (subst (λ (p : Folder → List Folder). Changes p (g.F.Files.history c.args.files.now) (g.F.Files.history c.rename.new.self) c.rename.result) (λ i. renamed (c.edit-from.ensures.name i) (c.value-to.ensures.name i)) c.rename.ensures.files) (ap is_ok c.in_ok-rename.was) c.add_line.ensures.files ok))
+    ∙ count_later (record { text = c.text_is_its_lines.ensures.text; unbroken = c.text_is_its_lines.ensures.unbroken }) h.held _ _ (moved_says (record { text = c.text_is_its_lines.ensures.text; unbroken = c.text_is_its_lines.ensures.unbroken }) h.held (kept c.args.table.now) c.args.key.now c.args.written (c.requires.sound h e) c.requires.edit _ refl) (Clean c.args.key.now c.args.written) (moved_journal (record { text = c.text_is_its_lines.ensures.text; unbroken = c.text_is_its_lines.ensures.unbroken }) h.held (kept c.args.table.now) c.args.key.now c.args.written (c.requires.sound h e) c.requires.edit _ refl) (c.edit-from.ensures.key, c.requires.short)

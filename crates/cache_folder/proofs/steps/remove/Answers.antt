@@ -1,10 +1,15 @@
-use Rattle.std.proofs.Common.{ℕ, List, refl, ap, subst, is_ok, IsSome, is_some}
+use Rattle.std.proofs.Common.{ℕ, List, refl, sym, ap, subst, is_ok, ◌∙◌, IsSome, is_some}
 use Rattle.std.specs.FinMap.{get}
-use Rattle.outside.specs.Files.{Changes, deleted}
+use Rattle.outside.specs.Files.{FolderHistory, Changes, deleted}
 use Rattle.cache_folder.specs.Offered.{journal_name}
 use Rattle.cache_folder.specs.Tables.{kept}
-use Rattle.cache_folder.proofs.Runs.{one, two, two_ok, at_middle, known_back}
-use Rattle.cache_folder.proofs.Calls.{remove_here, remove_gone, gone_says, remove_between, remove_images, remove_sound, remove_list}
+use Rattle.cache_folder.proofs.Runs.{one, two, two_ok, at_middle, known_back, run_has, same_some}
+use Rattle.cache_folder.proofs.Calls.{deleted_images, remove_here, remove_gone, gone_journal, gone_says, remove_between, remove_images, remove_sound, remove_list}
+use Rattle.journal_lines.specs.declared.lines.Line.TheVariants.{Remove}
+use Rattle.cache_folder.specs.Offered.{value_name}
+use Rattle.cache_folder.specs.Journals.{line_count}
+use Rattle.cache_folder.specs.Sound.{MayLose}
+use Rattle.cache_folder.proofs.Counting.{count_later, lost_here, lost_value, lost_line}
 use Rattle.cache_folder.proofs.steps.remove.Goals as goal
 
 pub returns-in_err-delete-clause-ways : goal.returns-in_err-delete-clause-ways
@@ -30,3 +35,14 @@ returns-clause-ok g c = λ ok h e. record {
 
 pub returns-clause-known : goal.returns-clause-known
 returns-clause-known g c = λ k e. let mid = known_back _ _ _ _ c.add_line.ensures.files k e in known_back _ _ _ _ c.delete.ensures.files mid.0 mid.1
+
+pub returns-clause-lines : goal.returns-clause-lines
+returns-clause-lines g c = λ ok h e k e'. ap (λ (m : FolderHistory). line_count m.held) (same_some _ _ (sym e' ∙ two_ok _ _ h _ _ _ _ _ e (subst (λ (n : List ℕ). Changes (deleted n) (g.F.Files.history c.args.files.now) (g.F.Files.history c.delete.new.self) c.delete.result) c.value-value.ensures.name c.delete.ensures.files) (ap is_ok c.in_ok-delete.was) c.add_line.ensures.files ok))
+    ∙ count_later (record { text = c.text_is_its_lines.ensures.text; unbroken = c.text_is_its_lines.ensures.unbroken }) h.held _ _ (gone_says (record { text = c.text_is_its_lines.ensures.text; unbroken = c.text_is_its_lines.ensures.unbroken }) h.held (kept c.args.table.now) c.args.key.now (c.requires.sound h e) c.value-value.ensures.key _ refl) (Remove c.args.key.now) (gone_journal (record { text = c.text_is_its_lines.ensures.text; unbroken = c.text_is_its_lines.ensures.unbroken }) h.held (kept c.args.table.now) c.args.key.now (c.requires.sound h e) c.value-value.ensures.key _ refl) c.value-value.ensures.key
+
+pub returns-in_err-delete-clause-left : goal.returns-in_err-delete-clause-left
+returns-in_err-delete-clause-left g c = λ h e k e'. run_has (MayLose c.args.key.now h.held) h k _ (one _ _ h _ _ _ e (subst (λ (n : List ℕ). Changes (deleted n) (g.F.Files.history c.args.files.now) (g.F.Files.history c.delete.new.self) c.delete.result) c.value-value.ensures.name c.delete.ensures.files) (lost_here (record { text = c.text_is_its_lines.ensures.text; unbroken = c.text_is_its_lines.ensures.unbroken }) c.args.key.now h.held) (deleted_images (record { text = c.text_is_its_lines.ensures.text; unbroken = c.text_is_its_lines.ensures.unbroken }) (MayLose c.args.key.now h.held) h.held (value_name c.args.key.now) (lost_value (record { text = c.text_is_its_lines.ensures.text; unbroken = c.text_is_its_lines.ensures.unbroken }) c.args.key.now h.held))) e'
+
+pub returns-clause-left : goal.returns-clause-left
+returns-clause-left g c = λ h e k e'. run_has (MayLose c.args.key.now h.held) h k _ (two _ _ _ h _ _ _ _ _ e (subst (λ (n : List ℕ). Changes (deleted n) (g.F.Files.history c.args.files.now) (g.F.Files.history c.delete.new.self) c.delete.result) c.value-value.ensures.name c.delete.ensures.files) (ap is_ok c.in_ok-delete.was) c.add_line.ensures.files
+    (lost_here (record { text = c.text_is_its_lines.ensures.text; unbroken = c.text_is_its_lines.ensures.unbroken }) c.args.key.now h.held) (deleted_images (record { text = c.text_is_its_lines.ensures.text; unbroken = c.text_is_its_lines.ensures.unbroken }) (MayLose c.args.key.now h.held) h.held (value_name c.args.key.now) (lost_value (record { text = c.text_is_its_lines.ensures.text; unbroken = c.text_is_its_lines.ensures.unbroken }) c.args.key.now h.held)) (lost_value (record { text = c.text_is_its_lines.ensures.text; unbroken = c.text_is_its_lines.ensures.unbroken }) c.args.key.now h.held) (lost_line (record { text = c.text_is_its_lines.ensures.text; unbroken = c.text_is_its_lines.ensures.unbroken }) c.args.key.now _ h.held _ (lost_value (record { text = c.text_is_its_lines.ensures.text; unbroken = c.text_is_its_lines.ensures.unbroken }) c.args.key.now h.held))) e'

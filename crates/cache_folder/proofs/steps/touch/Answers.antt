@@ -1,8 +1,12 @@
-use Rattle.std.proofs.Common.{◌≡◌, Some, None, refl, ap, IsSome, is_some}
+use Rattle.std.proofs.Common.{◌≡◌, Some, None, refl, sym, ap, ◌∙◌, IsSome, is_some}
 use Rattle.std.specs.declared.option.Option.{Option}
 use Rattle.cache_folder.specs.Tables.{Kept, kept}
-use Rattle.cache_folder.proofs.Runs.{one, one_ok, known_back}
+use Rattle.cache_folder.proofs.Runs.{one, one_ok, known_back, same_some}
 use Rattle.cache_folder.proofs.Calls.{use_here, use_images, use_sound, use_list}
+use Rattle.outside.specs.Files.{FolderHistory}
+use Rattle.journal_lines.specs.declared.lines.Line.TheVariants.{Read}
+use Rattle.cache_folder.specs.Journals.{line_count}
+use Rattle.cache_folder.proofs.Counting.{count_later}
 use Rattle.cache_folder.proofs.steps.touch.Goals as goal
 
 kept_of : (o : Option Kept) → IsSome o → (k : Kept) × (o ≡ Some k)
@@ -25,3 +29,7 @@ returns-clause-ok g c = λ ok h e. record {
 
 pub returns-clause-known : goal.returns-clause-known
 returns-clause-known g c = λ k e. known_back _ _ _ _ c.add_line.ensures.files k e
+
+pub returns-clause-lines : goal.returns-clause-lines
+returns-clause-lines g c = λ ok h e k e'. ap (λ (m : FolderHistory). line_count m.held) (same_some _ _ (sym e' ∙ one_ok _ h _ _ _ e c.add_line.ensures.files ok))
+    ∙ count_later (record { text = c.text_is_its_lines.ensures.text; unbroken = c.text_is_its_lines.ensures.unbroken }) h.held h.held _ (c.requires.sound h e).says (Read c.args.key.now) refl c.bytes-key.ensures.key

@@ -6,6 +6,8 @@ use Rattle.cache_folder.specs.Tables.{kept}
 use Rattle.cache_folder.specs.Sound.{text_at}
 use Rattle.cache_folder.proofs.Runs.{one, one_ok, known_back, same_some}
 use Rattle.cache_folder.proofs.Calls.{write_here, edit_there, write_images, write_sound, write_list, write_text}
+use Rattle.cache_folder.specs.Journals.{line_count}
+use Rattle.cache_folder.proofs.Counting.{count_written}
 use Rattle.cache_folder.proofs.steps.write.Goals as goal
 
 pub append-requires : goal.append-requires
@@ -27,3 +29,7 @@ returns-clause-text g c = λ ok h e k e'. ap (λ (m : FolderHistory). text_at m.
 
 pub returns-clause-known : goal.returns-clause-known
 returns-clause-known g c = λ k e. known_back _ _ _ _ c.append.ensures.files k e
+
+pub returns-clause-lines : goal.returns-clause-lines
+returns-clause-lines g c = λ ok h e k e'. ap (λ (m : FolderHistory). line_count m.held) (same_some _ _ (sym e' ∙ one_ok _ h _ _ _ e (subst (λ (n : List ℕ). Changes (appended n c.args.bytes.now) (g.F.Files.history c.args.files.now) (g.F.Files.history c.append.new.self) c.append.result) c.edit-edit.ensures.name c.append.ensures.files) ok))
+    ∙ count_written (record { text = c.text_is_its_lines.ensures.text; unbroken = c.text_is_its_lines.ensures.unbroken }) h.held (kept c.args.table.now) c.args.key.now c.args.bytes.now c.args.written (c.requires.sound h e) c.requires.edit

@@ -1,5 +1,5 @@
 use Rattle.std.proofs.Common.{Some}
-use Rattle.cache_folder.proofs.Kept.{open_number, none_after, others_after, edits_after, committed_after}
+use Rattle.cache_folder.proofs.Kept.{lines_after, open_number, none_after, others_after, edits_after, committed_after}
 use Rattle.cache_folder.proofs.table.CacheTable.commit.Goals as goal
 
 pub close_edit-requires-clause-open : goal.close_edit-requires-clause-open
@@ -17,3 +17,6 @@ returns-clause-closed c = none_after c.self.inside.table c.self.inside.written c
 pub returns-clause-others : goal.returns-clause-others
 returns-clause-others c =
     others_after c.self.inside.table c.self.inside.written c.args.self.now c.close_edit.new.self c.args.key.now c.args.number (Some c.args.length) c.self.view_is c.requires.open c.close_edit.ensures.table c.close_edit.ensures.free
+
+pub returns-clause-lines : goal.returns-clause-lines
+returns-clause-lines c = lines_after c.self.inside.table c.self.inside.written c.args.self.now c.close_edit.new.self c.args.key.now c.args.number (Some c.args.length) c.self.view_is c.requires.open c.close_edit.ensures.table c.close_edit.ensures.free
