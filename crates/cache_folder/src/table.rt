@@ -115,6 +115,7 @@ impl CacheTable {
         ensures number { IfOk result (λ number. free_edit self.old.table.edits ≡ Some number) }
         ensures edits { IfOk result (λ number. self.new.table.edits ≡ set self.old.table.edits number (Some key.now)) }
         ensures open { IfOk result (λ number. edit_of key.now self.new.table.edits ≡ Some number) }
+        ensures others { IfOk result (λ number. (k : List ℕ) → k ≢ key.now → edit_of k self.new.table.edits ≡ edit_of k self.old.table.edits) }
         ensures within { IfOk result (λ number. number < 16) }
         ensures few { IfOk result (λ number. length (begun key.now (kept self.old)) ≤ 16400) }
         ensures lines { IfOk result (λ number. CountsLine self.old self.new) }

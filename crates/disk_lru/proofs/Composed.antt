@@ -1,17 +1,18 @@
 -- A call, with the rebuilds before it and behind it.
-use Rattle.std.proofs.Common.{◌≡◌, ℕ, Bool, List, [], ◌∷◌, Some, refl, sym, ap, subst, ◌∙◌, inl, inr}
+use Rattle.std.proofs.Common.{◌≡◌, ◌⊎◌, ℕ, Bool, List, [], ◌∷◌, Some, refl, sym, ap, subst, ◌∙◌, inl, inr}
 use Rattle.std.specs.FinMap.{get}
 use Rattle.outside.specs.Files.{Folder, FolderHistory, passed_through}
 use Rattle.disk_table.specs.UseOrder.{without}
+use Rattle.disk_table.specs.Table.{edit_of}
 use Rattle.cache_folder.specs.Offered.{edit_name, offered}
 use Rattle.cache_folder.specs.Steps.{Drop, all_stepped, offers}
 use Rattle.cache_folder.specs.Images.{IfKnown, WasKnown, Runs, OffersEither}
 use Rattle.cache_folder.specs.Sound.{listed, SameEntries, Way, Done, RebuildWay}
 use Rattle.cache_folder.specs.Allowed.{Pass, IsWithin, values_of, handed_by}
 use Rattle.cache_folder.specs.Laws.{CacheLaws}
-use Rattle.disk_lru.specs.State.{CacheState, entries, list_of}
-use Rattle.disk_lru.specs.Calls.{Offers, Steps, StaysWithin, CallOn}
-use Rattle.disk_lru.specs.inside.Rebuilds.{Rebuilds}
+use Rattle.disk_lru.specs.State.{CacheState, entries, list_of, Offers, IsSettled}
+use Rattle.disk_lru.specs.Calls.{Steps, StaysWithin, OffersOneOf, Passage, CallOn, Makes, Fails}
+use Rattle.disk_lru.specs.inside.Rebuilds.{Rebuilds, Took}
 use Rattle.disk_lru.proofs.Runs.{run_none, run_more, run_weaken, run_has, known_more, same_some}
 
 module _ (laws : CacheLaws) where
@@ -58,22 +59,24 @@ module _ (laws : CacheLaws) where
       (hands : (f : Folder) (allowed : List ℕ × List ℕ → Bool) → Pass allowed (handed_by (meant f)) → Pass allowed (handed_by (made f))) where
     pub call_by : CallOn key meant made old new
     call_by = record {
-      known = known;
-      list = list;
-      moments = λ h e o. run_weaken _ _ h new.history (λ c w. w.0) (ways h e);
-      allows = λ h e allowed w pass.
-          let moments : Runs (λ c. Pass allowed (offered c)) h new.history = run_weaken _ (λ c. Pass allowed (offered c)) h new.history
-          (λ c x. elim x.0 as (λ _. Pass allowed (offered c)) [
-            | inl y ↦ subst (Pass allowed) (sym y) (laws.offers_allowed allowed (list_of h.held old) w.keeps_allowed)
-            | inr y ↦ subst (Pass allowed) (sym y) (laws.offers_allowed allowed (all_stepped (list_of h.held old) (meant h.held)) (laws.steps_allowed allowed (list_of h.held old) (meant h.held) w.keeps_allowed pass))
-          ]) (ways h e) in
-          record {
-            moments = moments;
-            within = λ k e'. record {
-              offers_allowed = run_has _ h k new.history moments e';
-              keeps_allowed = subst (Pass allowed) (ap values_of (sym (list h e k e'))) (laws.steps_allowed allowed (list_of h.held old) (made h.held) w.keeps_allowed (hands h.held allowed pass));
+      passage = record {
+        known = known;
+        moments = λ h e. run_weaken _ _ h new.history (λ c w. inr w.0) (ways h e);
+        allows = λ h e allowed w pass.
+            let moments : Runs (λ c. Pass allowed (offered c)) h new.history = run_weaken _ (λ c. Pass allowed (offered c)) h new.history
+            (λ c x. elim x.0 as (λ _. Pass allowed (offered c)) [
+              | inl y ↦ subst (Pass allowed) (sym y) (laws.offers_allowed allowed (list_of h.held old) w.keeps_allowed)
+              | inr y ↦ subst (Pass allowed) (sym y) (laws.offers_allowed allowed (all_stepped (list_of h.held old) (meant h.held)) (laws.steps_allowed allowed (list_of h.held old) (meant h.held) w.keeps_allowed pass))
+            ]) (ways h e) in
+            record {
+              moments = moments;
+              within = λ k e'. record {
+                offers_allowed = run_has _ h k new.history moments e';
+                keeps_allowed = subst (Pass allowed) (ap values_of (sym (list h e k e'))) (laws.steps_allowed allowed (list_of h.held old) (made h.held) w.keeps_allowed (hands h.held allowed pass));
+              };
             };
-          };
+      };
+      list = list;
       others = λ h e k e' other ne. laws.others_edits key other h.held k.held (run_has _ h k new.history (ways h e) e').1 ne;
     }
 
@@ -89,23 +92,35 @@ module _ (laws : CacheLaws) where
       (λ h e k e'. ap (listed k.held) forgets ∙ laws.others_listed key h.held k.held (entries old) (run_has _ h k new.history (ways h e) e').1)
       (λ f allowed pass. tt)
 
+  -- ---- a rebuild alone
+
+  -- each moment of a rebuild offers what was offered, or the list
+  abbrev pub BuildMoment : Folder → CacheState → Folder → Type 0
+  BuildMoment f old c = (offered c ≡ offered f) ⊎ (offered c ≡ offers (list_of f old))
+
+  module _ (old new : CacheState) (r : Rebuilds old new) where
+    pub rebuild_moments : (h : FolderHistory) → old.history ≡ Some h → Runs (BuildMoment h.held old) h new.history
+    rebuild_moments h e = run_weaken (RebuildWay h.held (entries old)) (BuildMoment h.held old) h new.history (λ c w. w.0) (r.moments h e)
+
   -- ---- a rebuild that failed, and the key forgotten
 
   pub call_unready : (key : List ℕ) (meant : Steps) (old mid new : CacheState) → Rebuilds old mid → new.history ≡ mid.history → entries new ≡ without key (entries mid)
       → CallOn key meant (λ f. Drop key ∷ []) old new
   call_unready key meant old mid new r same forgets = record {
-    known = λ k e. r.known k (sym same ∙ e);
-    list = dropped;
-    moments = λ h e o. subst (Runs _ h) (sym same) (run_weaken _ _ h mid.history (λ c x. inl x) (list_moments old mid r h e o));
-    allows = λ h e allowed w pass.
-        let s = rebuilt_within old mid r h e allowed w in
-        record {
-          moments = subst (Runs _ h) (sym same) s.moments;
-          within = λ k e'. record {
-            offers_allowed = (s.within k (sym same ∙ e')).offers_allowed;
-            keeps_allowed = subst (Pass allowed) (ap values_of (sym (dropped h e k e'))) (laws.steps_allowed allowed (list_of h.held old) (Drop key ∷ []) w.keeps_allowed tt);
+    passage = record {
+      known = λ k e. r.known k (sym same ∙ e);
+      moments = λ h e. subst (Runs _ h) (sym same) (run_weaken _ _ h mid.history (λ c w. elim w as (λ _. OffersOneOf h.held (list_of h.held old) (all_stepped (list_of h.held old) (meant h.held)) c) [ inl y ↦ inl y | inr y ↦ inr (inl y) ]) (rebuild_moments old mid r h e));
+      allows = λ h e allowed w pass.
+          let s = rebuilt_within old mid r h e allowed w in
+          record {
+            moments = subst (Runs _ h) (sym same) s.moments;
+            within = λ k e'. record {
+              offers_allowed = (s.within k (sym same ∙ e')).offers_allowed;
+              keeps_allowed = subst (Pass allowed) (ap values_of (sym (dropped h e k e'))) (laws.steps_allowed allowed (list_of h.held old) (Drop key ∷ []) w.keeps_allowed tt);
+            };
           };
-        };
+    };
+    list = dropped;
     others = λ h e k e' other ne. laws.entries_edits other h.held k.held (same_entries old mid r h k e (sym same ∙ e'));
   } where
     dropped : (h : FolderHistory) → old.history ≡ Some h → (k : FolderHistory) → new.history ≡ Some k → list_of k.held new ≡ without key (list_of h.held old)
@@ -114,63 +129,106 @@ module _ (laws : CacheLaws) where
 
   -- ---- a rebuild, and then a call
 
-  pub call_ready : (key : List ℕ) (meant made : Steps) (old mid new : CacheState) → Rebuilds old mid → ((f g : Folder) → SameEntries f g → meant g ≡ meant f) → ((f g : Folder) → SameEntries f g → made g ≡ made f)
-      → CallOn key meant made mid new → CallOn key meant made old new
-  call_ready key meant made old mid new r stable stable' x = record {
+  pub passage_ready : (meant : Steps) (old mid new : CacheState) → Rebuilds old mid → ((f g : Folder) → SameEntries f g → meant g ≡ meant f) → Passage meant mid new → Passage meant old new
+  passage_ready meant old mid new r stable x = record {
     known = known_more old.history mid.history new.history r.known x.known;
-    list = λ h e k e'. let m = x.known k e' in x.list m.0 m.1 k e' ∙ (λ i. all_stepped (rebuilt_list old mid r h m.0 e m.1 i) (stable' h.held m.0.held (same_entries old mid r h m.0 e m.1) i));
-    moments = λ h e o.
-        let either : Folder → Type 0 = OffersEither (list_of h.held old) (all_stepped (list_of h.held old) (meant h.held)) in
-        let first : Runs either h mid.history = run_weaken (λ c. offered c ≡ offers (list_of h.held old)) either h mid.history (λ c y. inl y) (list_moments old mid r h e o) in
+    moments = λ h e.
+        let now : Folder → Type 0 = OffersOneOf h.held (list_of h.held old) (all_stepped (list_of h.held old) (meant h.held)) in
+        let first : Runs now h mid.history = run_weaken (BuildMoment h.held old) now h mid.history (λ c w. elim w as (λ _. now c) [ inl y ↦ inl y | inr y ↦ inr (inl y) ]) (rebuild_moments old mid r h e) in
         let m : FolderHistory = passed_through first.contents h in
         let same = rebuilt_list old mid r h m e first.after_is in
         let steps = stable h.held m.held (same_entries old mid r h m e first.after_is) in
-        run_more either h mid.history new.history first
-        (subst (λ p. Runs p m new.history) (λ i c. OffersEither (same i) (all_stepped (same i) (steps i)) c) (x.moments m first.after_is (rebuilt_offers old mid r h m e first.after_is o)));
+        run_more now h mid.history new.history first
+        (run_weaken (OffersOneOf m.held (list_of h.held old) (all_stepped (list_of h.held old) (meant h.held))) now m new.history
+        (λ c w. elim w as (λ _. now c) [
+          | inl y ↦ elim first.here as (λ _. now c) [
+            | inl z ↦ inl (y ∙ z)
+            | inr z ↦ inr (elim z as (λ _. OffersEither (list_of h.held old) (all_stepped (list_of h.held old) (meant h.held)) c) [ inl v ↦ inl (y ∙ v) | inr v ↦ inr (y ∙ v) ])
+          ]
+          | inr y ↦ inr y
+        ])
+        (subst (λ p. Runs p m new.history) (λ i c. OffersOneOf m.held (same i) (all_stepped (same i) (steps i)) c) (x.moments m first.after_is)));
     allows = λ h e allowed w pass.
         let s = rebuilt_within old mid r h e allowed w in
         let m : FolderHistory = passed_through s.moments.contents h in
         let steps = stable h.held m.held (same_entries old mid r h m e s.moments.after_is) in
         let t = x.allows m s.moments.after_is allowed (s.within m s.moments.after_is) (subst (λ l. Pass allowed (handed_by l)) (sym steps) pass) in
         record { moments = run_more _ h mid.history new.history s.moments t.moments; within = t.within };
-    others = λ h e k e' other ne. let m = x.known k e' in x.others m.0 m.1 k e' other ne ∙ laws.entries_edits other h.held m.0.held (same_entries old mid r h m.0 e m.1);
+  }
+
+  pub call_ready : (key : List ℕ) (meant made : Steps) (old mid new : CacheState) → Rebuilds old mid → ((f g : Folder) → SameEntries f g → meant g ≡ meant f) → ((f g : Folder) → SameEntries f g → made g ≡ made f)
+      → CallOn key meant made mid new → CallOn key meant made old new
+  call_ready key meant made old mid new r stable stable' x = record {
+    passage = passage_ready meant old mid new r stable x.passage;
+    list = λ h e k e'. let m = x.passage.known k e' in x.list m.0 m.1 k e' ∙ (λ i. all_stepped (rebuilt_list old mid r h m.0 e m.1 i) (stable' h.held m.0.held (same_entries old mid r h m.0 e m.1) i));
+    others = λ h e k e' other ne. let m = x.passage.known k e' in x.others m.0 m.1 k e' other ne ∙ laws.entries_edits other h.held m.0.held (same_entries old mid r h m.0 e m.1);
   }
 
   -- ---- a call, and then a rebuild
 
   pub call_rebuilt : (key : List ℕ) (steps : Steps) (old mid new : CacheState) → CallOn key steps steps old mid → Rebuilds mid new → CallOn key steps steps old new
   call_rebuilt key steps old mid new x r = record {
-    known = known_more old.history mid.history new.history x.known r.known;
+    passage = record {
+      known = known_more old.history mid.history new.history x.passage.known r.known;
+      moments = λ h e.
+          let now : Folder → Type 0 = OffersOneOf h.held (list_of h.held old) (all_stepped (list_of h.held old) (steps h.held)) in
+          let first : Runs now h mid.history = x.passage.moments h e in
+          let m : FolderHistory = passed_through first.contents h in
+          run_more now h mid.history new.history first
+          (run_weaken (BuildMoment m.held mid) now m new.history (λ c w. elim w as (λ _. now c) [
+            | inl y ↦ elim first.here as (λ _. now c) [
+              | inl z ↦ inl (y ∙ z)
+              | inr z ↦ inr (elim z as (λ _. OffersEither (list_of h.held old) (all_stepped (list_of h.held old) (steps h.held)) c) [ inl v ↦ inl (y ∙ v) | inr v ↦ inr (y ∙ v) ])
+            ]
+            | inr y ↦ inr (inr (y ∙ ap offers (x.list h e m first.after_is)))
+          ]) (rebuild_moments mid new r m first.after_is));
+      allows = λ h e allowed w pass.
+          let s = x.passage.allows h e allowed w pass in
+          let m : FolderHistory = passed_through s.moments.contents h in
+          let t = rebuilt_within mid new r m s.moments.after_is allowed (s.within m s.moments.after_is) in
+          record { moments = run_more _ h mid.history new.history s.moments t.moments; within = t.within };
+    };
     list = λ h e k e'. let m = r.known k e' in rebuilt_list mid new r m.0 k m.1 e' ∙ x.list h e m.0 m.1;
-    moments = λ h e o.
-        let first = x.moments h e o in
-        let m : FolderHistory = passed_through first.contents h in
-        run_more _ h mid.history new.history first
-        (run_weaken (RebuildWay m.held (entries mid)) _ m new.history (λ c w. elim w.0 as (λ _. OffersEither (list_of h.held old) (all_stepped (list_of h.held old) (steps h.held)) c) [
-          | inl y ↦ elim first.here as (λ _. OffersEither (list_of h.held old) (all_stepped (list_of h.held old) (steps h.held)) c) [ inl z ↦ inl (y ∙ z) | inr z ↦ inr (y ∙ z) ]
-          | inr y ↦ inr (y ∙ ap offers (x.list h e m first.after_is))
-        ]) (r.moments m first.after_is));
-    allows = λ h e allowed w pass.
-        let s = x.allows h e allowed w pass in
-        let m : FolderHistory = passed_through s.moments.contents h in
-        let t = rebuilt_within mid new r m s.moments.after_is allowed (s.within m s.moments.after_is) in
-        record { moments = run_more _ h mid.history new.history s.moments t.moments; within = t.within };
     others = λ h e k e' other ne. let m = r.known k e' in laws.entries_edits other m.0.held k.held (same_entries mid new r m.0 k m.1 e') ∙ x.others h e m.0 m.1 other ne;
   }
 
   -- ---- no call at all, and a rebuild alone
 
-  call_none : (key : List ℕ) (s : CacheState) → CallOn key (λ f. []) (λ f. []) s s
-  call_none key s = record {
+  pub passage_none : (s : CacheState) → Passage (λ f. []) s s
+  passage_none s = record {
     known = λ k e. (k, e);
-    list = λ h e k e'. ap (λ (m : FolderHistory). list_of m.held s) (same_some k h (sym e' ∙ e));
-    moments = λ h e o. run_none _ h s.history e (inl o);
+    moments = λ h e. run_none _ h s.history e (inl refl);
     allows = λ h e allowed w pass. record {
       moments = run_none (λ c. Pass allowed (offered c)) h s.history e w.offers_allowed;
       within = λ k e'. subst (λ (m : FolderHistory). IsWithin allowed m.held (entries s)) (same_some h k (sym e ∙ e')) w;
     };
+  }
+
+  call_none : (key : List ℕ) (s : CacheState) → CallOn key (λ f. []) (λ f. []) s s
+  call_none key s = record {
+    passage = passage_none s;
+    list = λ h e k e'. ap (λ (m : FolderHistory). list_of m.held s) (same_some k h (sym e' ∙ e));
     others = λ h e k e' other ne. ap (λ (m : FolderHistory). get m.held (edit_name other)) (same_some k h (sym e' ∙ e));
   }
 
   pub call_rebuild : (key : List ℕ) (old new : CacheState) → Rebuilds old new → CallOn key (λ f. []) (λ f. []) old new
   call_rebuild key old new r = call_rebuilt key (λ f. []) old old new (call_none key old) r
+
+  -- ---- a whole call
+
+  pub makes_by : (key : List ℕ) (steps : Steps) (old a b new : CacheState) → Rebuilds old a → ((f g : Folder) → SameEntries f g → steps g ≡ steps f) → Took key steps a b → Rebuilds b new → IsSettled new → Makes key steps old new
+  makes_by key steps old a b new r stable x r' settled = record {
+    call = call_rebuilt key steps old b new (call_ready key steps steps old a b r stable stable x.call) r';
+    offers_now = λ k e. let m = r'.known k e in rebuilt_offers b new r' m.0 k m.1 e (x.offers_now m.0 m.1);
+    settled = settled;
+  }
+
+  pub fails_after : (key : List ℕ) (steps : Steps) (old mid new : CacheState) → Rebuilds old mid → ((f g : Folder) → SameEntries f g → steps g ≡ steps f) → Fails key steps mid new → Fails key steps old new
+  fails_after key steps old mid new r stable x = record {
+    forgets = record {
+      entries_are = x.forgets.entries_are ∙ ap (without key) r.entries_are;
+      edit = record { own = x.forgets.edit.own; others = λ other ne. x.forgets.edit.others other ne ∙ ap (edit_of other) r.edits_are };
+      due = x.forgets.due;
+    };
+    call = call_ready key steps (λ f. Drop key ∷ []) old mid new r stable (λ f g same. refl) x.call;
+  }

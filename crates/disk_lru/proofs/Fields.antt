@@ -1,82 +1,96 @@
 -- What holds of a cache after a call on its files.
-use Rattle.std.proofs.Common.{◌≡◌, ◌≢◌, ℕ, ◌≤◌, Bool, true, false, List, [], ◌∷◌, Some, None, refl, sym, ap, subst, ◌∙◌, inl, arith}
+use Rattle.std.proofs.Common.{◌≡◌, ◌≢◌, ℕ, ◌+◌, ◌≤◌, Bool, true, List, [], ◌∷◌, Some, None, refl, sym, ap, subst, ◌∙◌, inl, arith}
 use Rattle.std.specs.declared.option.Option.{Option}
 use Rattle.outside.specs.Causes.{HasCause}
 use Rattle.outside.specs.Files.{Folder, FolderHistory}
 use Rattle.disk_table.specs.UseOrder.{without}
-use Rattle.disk_table.specs.Table.{edit_of}
+use Rattle.disk_table.specs.Table.{edit_of, is_full_for, counted}
+use Rattle.cache_folder.specs.Journals.{line_count}
 use Rattle.cache_folder.specs.Steps.{Cached, Drop, all_stepped}
 use Rattle.cache_folder.specs.Images.{IfKnown, WasKnown, Runs}
-use Rattle.cache_folder.specs.Tables.{Table}
+use Rattle.cache_folder.specs.Tables.{Table, CacheTableValue, kept}
 use Rattle.cache_folder.specs.Sound.{IsKept, IsSound, SameBut, RebuildWay, Done}
 use Rattle.cache_folder.specs.Laws.{CacheLaws}
 use Rattle.disk_lru.specs.State.{CacheState, entries, edits, list_of}
-use Rattle.disk_lru.specs.Calls.{Steps, CallOn, ClosesEdit, Forgets}
-use Rattle.disk_lru.specs.inside.Rebuilds.{Rebuilds}
+use Rattle.disk_lru.specs.Calls.{Steps, CallOn, ClosesEdit, Forgets, Fails}
+use Rattle.disk_lru.specs.inside.Kept.{IsCounted, Keeps}
+use Rattle.disk_lru.specs.inside.Rebuilds.{Rebuilds, Took}
 use Rattle.disk_lru.proofs.Runs.{run_has, run_none, same_some}
-use Rattle.disk_lru.proofs.Composed.{MeantWays, call_done, call_failed}
+use Rattle.disk_lru.proofs.Composed.{MeantWays, call_done, call_failed, call_unready}
 
--- what the type keeps
-abbrev pub Keeps : Option FolderHistory → Table → Bool → Type 0
-Keeps history t due = IfKnown history (λ h. IsKept h.held t × (due ≡ false → IsSound h.held t))
+-- ---- the count of lines
+
+pub counted_more : (f g : Folder) (lines lines' : ℕ) → IsCounted f lines → line_count g ≡ line_count f + 1 → lines' ≡ counted lines → IsCounted g lines'
+counted_more f g lines lines' was more is = omega (arith, was, more, is)
+
+pub counted_same : (f g : Folder) (lines lines' : ℕ) → IsCounted f lines → line_count g ≡ line_count f + 0 → lines' ≡ lines → IsCounted g lines'
+counted_same f g lines lines' was more is = omega (arith, was, more, is)
+
+-- ---- what the type keeps
 
 pub kept_of_sound : (f : Folder) (t : Table) → IsSound f t → IsKept f t
 kept_of_sound f t s = record { files = s.files; count = s.count; once = s.once }
 
--- after a call that succeeded
-pub keeps_done : (before after : Option FolderHistory) (t' : Table) (due : Bool) (es : FolderHistory → Cached (List ℕ)) → WasKnown before after → IfKnown before (λ h. Done after t' (es h)) → Keeps after t' due
-keeps_done before after t' due es known done k e =
-    let was = known k e in
-    let d = done was.0 was.1 in
-    let s = subst (λ (m : FolderHistory). IsSound m.held t') (same_some _ _ (sym d.holds ∙ e)) d.sound in
-    (kept_of_sound k.held t' s, λ ready. s)
-
 pub sound_done : (after : Option FolderHistory) (t : Table) (es : Cached (List ℕ)) (k : FolderHistory) → Done after t es → after ≡ Some k → IsSound k.held t
 sound_done after t es k d e = subst (λ (m : FolderHistory). IsSound m.held t) (same_some _ _ (sym d.holds ∙ e)) d.sound
 
-pub keeps_sound : (before after : Option FolderHistory) (t t' : Table) (due : Bool) → WasKnown before after → IfKnown before (λ h. IfKnown after (λ k. IsSound k.held t)) → t' ≡ t → Keeps after t' due
-keeps_sound before after t t' due known sound is k e =
-    let was = known k e in
-    let s = subst (IsSound k.held) (sym is) (sound was.0 was.1 k e) in
-    (kept_of_sound k.held t' s, λ ready. s)
+-- after a call that succeeded
+pub keeps_sound : (before after : Option FolderHistory) (t : Table) (table : CacheTableValue) (due : Bool) → WasKnown before after → IfKnown before (λ h. IfKnown after (λ k. IsSound k.held t)) → kept table ≡ t
+    → IfKnown before (λ h. IfKnown after (λ k. IsCounted k.held table.table.lines)) → Keeps after table due
+keeps_sound before after t table due known sound is count =
+    let s : IfKnown after (λ k. IsSound k.held (kept table)) = λ k e. let was = known k e in subst (IsSound k.held) (sym is) (sound was.0 was.1 k e) in
+    record {
+      files = λ k e. kept_of_sound k.held (kept table) (s k e);
+      sound = λ ready. s;
+      counted = λ ready k e. let was = known k e in count was.0 was.1 k e;
+    }
 
--- after one that failed
-pub keeps_failed : (laws : CacheLaws) (key : List ℕ) (before after : Option FolderHistory) (t t' : Table) → WasKnown before after → IfKnown before (λ h. IsKept h.held t)
-    → IfKnown before (λ h. IfKnown after (λ k. SameBut key h.held k.held)) → t' ≡ without key t → Keeps after t' true
-keeps_failed laws key before after t t' known kept same is k e =
+-- after one that failed: a rebuild is due
+pub keeps_due : (after : Option FolderHistory) (table : CacheTableValue) → IfKnown after (λ k. IsKept k.held (kept table)) → Keeps after table true
+keeps_due after table files = record { files = files; sound = λ no'. cc; counted = λ no'. cc }
+
+pub keeps_failed : (laws : CacheLaws) (key : List ℕ) (before after : Option FolderHistory) (t : Table) (table : CacheTableValue) → WasKnown before after → IfKnown before (λ h. IsKept h.held t)
+    → IfKnown before (λ h. IfKnown after (λ k. SameBut key h.held k.held)) → kept table ≡ without key t → Keeps after table true
+keeps_failed laws key before after t table known files same is = keeps_due after table (λ k e.
     let was = known k e in
-    (subst (IsKept k.held) (sym is) (laws.others_kept key was.0.held k.held t (same was.0 was.1 k e) (kept was.0 was.1)), λ no'. cc)
+    subst (IsKept k.held) (sym is) (laws.others_kept key was.0.held k.held t (same was.0 was.1 k e) (files was.0 was.1)))
 
 -- after a rebuild that failed
-pub keeps_unbuilt : (laws : CacheLaws) (before after : Option FolderHistory) (t : Table) → WasKnown before after → IfKnown before (λ h. IsKept h.held t)
-    → IfKnown before (λ h. Runs (RebuildWay h.held t) h after) → Keeps after t true
-keeps_unbuilt laws before after t known kept ways k e =
+pub keeps_unbuilt : (laws : CacheLaws) (before after : Option FolderHistory) (table : CacheTableValue) → WasKnown before after → IfKnown before (λ h. IsKept h.held (kept table))
+    → IfKnown before (λ h. Runs (RebuildWay h.held (kept table)) h after) → Keeps after table true
+keeps_unbuilt laws before after table known files ways = keeps_due after table (λ k e.
     let was = known k e in
-    (laws.entries_kept was.0.held k.held t (run_has _ was.0 k after (ways was.0 was.1) e).1 (kept was.0 was.1), λ no'. cc)
+    laws.entries_kept was.0.held k.held (kept table) (run_has _ was.0 k after (ways was.0 was.1) e).1 (files was.0 was.1))
 
 -- the key is forgotten
-pub keeps_forgotten : (laws : CacheLaws) (key : List ℕ) (history : Option FolderHistory) (t t' : Table) → IfKnown history (λ h. IsKept h.held t) → t' ≡ without key t → Keeps history t' true
-keeps_forgotten laws key history t t' kept is k e = (subst (IsKept k.held) (sym is) (laws.others_kept key k.held k.held t (λ name j v x. refl) (kept k e)), λ no'. cc)
+pub keeps_forgotten : (laws : CacheLaws) (key : List ℕ) (history : Option FolderHistory) (t : Table) (table : CacheTableValue) → IfKnown history (λ h. IsKept h.held t) → kept table ≡ without key t → Keeps history table true
+keeps_forgotten laws key history t table files is = keeps_due history table (λ k e. subst (IsKept k.held) (sym is) (laws.others_kept key k.held k.held t (λ name j v x. refl) (files k e)))
 
 -- ---- from the fields of a cache to what contracts see of it
 
-pub rebuilds_by : (s old new : CacheState) → s ≡ old → entries new ≡ entries s → edits new ≡ edits s → new.maximum ≡ s.maximum → WasKnown s.history new.history
+pub rebuilds_by : (s old new : CacheState) → s ≡ old → entries new ≡ entries s → edits new ≡ edits s → new.table.table.entries ≡ s.table.table.entries → new.maximum ≡ s.maximum → WasKnown s.history new.history
     → IfKnown s.history (λ h. Runs (RebuildWay h.held (entries s)) h new.history) → s.faults ≤ new.faults → Rebuilds old new
-rebuilds_by s old new same entries_are edits_are maximum_is known moments later = subst (λ x. Rebuilds x new) same
-    record { entries_are = entries_are; edits_are = edits_are; maximum_is = maximum_is; known = known; moments = moments; later = later }
+rebuilds_by s old new same entries_are edits_are keys_are maximum_is known moments later = subst (λ x. Rebuilds x new) same
+    record { entries_are = entries_are; edits_are = edits_are; keys_are = keys_are; maximum_is = maximum_is; known = known; moments = moments; later = later }
 
 pub forgets_by : (s old new : CacheState) (key : List ℕ) → s ≡ old → entries new ≡ without key (entries s) → edit_of key (edits new) ≡ None
     → ((other : List ℕ) → other ≢ key → edit_of other (edits new) ≡ edit_of other (edits s)) → new.due ≡ true → Forgets key old new
 forgets_by s old new key same entries_are own others due = subst (λ x. Forgets key x new) same record { entries_are = entries_are; edit = record { own = own; others = others }; due = due }
 
-pub done_by : (laws : CacheLaws) (s old new : CacheState) (key : List ℕ) (meant : Steps) → s ≡ old → WasKnown s.history new.history → MeantWays laws key meant s new
-    → (t' : Table) → t' ≡ entries new → IfKnown s.history (λ h. Done new.history t' (all_stepped (list_of h.held s) (meant h.held))) → CallOn key meant meant old new
-done_by laws s old new key meant same known ways t' is does = subst (λ x. CallOn key meant meant x new) same
-    (call_done laws key meant s new known ways (subst (λ t. IfKnown s.history (λ h. Done new.history t (all_stepped (list_of h.held s) (meant h.held)))) is does))
+pub took_by : (laws : CacheLaws) (s old new : CacheState) (key : List ℕ) (meant : Steps) → s ≡ old → WasKnown s.history new.history → MeantWays laws key meant s new
+    → (t : Table) → entries new ≡ t → IfKnown s.history (λ h. Done new.history t (all_stepped (list_of h.held s) (meant h.held))) → Took key meant old new
+took_by laws s old new key meant same known ways t is does = subst (λ x. Took key meant x new) same record {
+  call = call_done laws key meant s new known ways (subst (λ t'. IfKnown s.history (λ h. Done new.history t' (all_stepped (list_of h.held s) (meant h.held)))) (sym is) does);
+  offers_now = λ k e. let m = known k e in laws.sound_offers k.held (entries new) (subst (IsSound k.held) (sym is) (sound_done new.history t _ k (does m.0 m.1) e));
+}
 
-pub failed_by : (laws : CacheLaws) (s old new : CacheState) (key : List ℕ) (meant : Steps) → s ≡ old → WasKnown s.history new.history → MeantWays laws key meant s new
-    → entries new ≡ without key (entries s) → CallOn key meant (λ f. Drop key ∷ []) old new
-failed_by laws s old new key meant same known ways is = subst (λ x. CallOn key meant (λ f. Drop key ∷ []) x new) same (call_failed laws key meant s new known ways is)
+pub fails_by : (laws : CacheLaws) (s old new : CacheState) (key : List ℕ) (meant : Steps) → s ≡ old → WasKnown s.history new.history → MeantWays laws key meant s new
+    → entries new ≡ without key (entries s) → edit_of key (edits new) ≡ None
+    → ((other : List ℕ) → other ≢ key → edit_of other (edits new) ≡ edit_of other (edits s)) → new.due ≡ true → Fails key meant old new
+fails_by laws s old new key meant same known ways is own others due = record {
+  forgets = forgets_by s old new key same is own others due;
+  call = subst (λ x. CallOn key meant (λ f. Drop key ∷ []) x new) same (call_failed laws key meant s new known ways is);
+}
 
 pub closes_by : (s old new : CacheState) (key : List ℕ) → s ≡ old → edit_of key (edits new) ≡ None → ((other : List ℕ) → other ≢ key → edit_of other (edits new) ≡ edit_of other (edits s)) → ClosesEdit key old new
 closes_by s old new key same own others = subst (λ x. ClosesEdit key x new) same record { own = own; others = others }
@@ -90,13 +104,13 @@ forgets_after key old mid new r f = record {
 }
 
 -- the same steps
-pub done_as : (key : List ℕ) (m n : Steps) (old new : CacheState) → m ≡ n → CallOn key m m old new → CallOn key n n old new
-done_as key m n old new same x = subst (λ s. CallOn key s s old new) same x
+pub took_as : (key : List ℕ) (m n : Steps) (old new : CacheState) → m ≡ n → Took key m old new → Took key n old new
+took_as key m n old new same x = subst (λ s. Took key s old new) same x
 
-pub failed_as : (key : List ℕ) (m n made : Steps) (old new : CacheState) → m ≡ n → CallOn key m made old new → CallOn key n made old new
-failed_as key m n made old new same x = subst (λ s. CallOn key s made old new) same x
+pub fails_as : (key : List ℕ) (m n : Steps) (old new : CacheState) → m ≡ n → Fails key m old new → Fails key n old new
+fails_as key m n old new same x = subst (λ s. Fails key s old new) same x
 
--- an edit that is closed, with a rebuild before it and one behind it
+-- an edit that is closed, with a rebuild before it and one after it
 pub closes_after : (key : List ℕ) (old mid new : CacheState) → Rebuilds old mid → ClosesEdit key mid new → ClosesEdit key old new
 closes_after key old mid new r x = record { own = x.own; others = λ other ne. x.others other ne ∙ ap (edit_of other) r.edits_are }
 
@@ -112,8 +126,21 @@ pub rebuilds_none : (s : CacheState) → Rebuilds s s
 rebuilds_none s = record {
   entries_are = refl;
   edits_are = refl;
+  keys_are = refl;
   maximum_is = refl;
   known = λ k e. (k, e);
   moments = λ h e. run_none (RebuildWay h.held (entries s)) h s.history e (inl refl, λ name j t b. refl);
   later = omega arith;
 }
+
+-- a call that failed before its first change of a file
+pub fails_early : (laws : CacheLaws) (s old new : CacheState) (key : List ℕ) (meant : Steps) → s ≡ old → new.history ≡ s.history → entries new ≡ without key (entries s) → edit_of key (edits new) ≡ None
+    → ((other : List ℕ) → other ≢ key → edit_of other (edits new) ≡ edit_of other (edits s)) → new.due ≡ true → Fails key meant old new
+fails_early laws s old new key meant same files is own others due = record {
+  forgets = forgets_by s old new key same is own others due;
+  call = subst (λ x. CallOn key meant (λ f. Drop key ∷ []) x new) same (call_unready laws key meant s s new (rebuilds_none s) files is);
+}
+
+-- whether there is room for an edit is as it was
+pub full_same : (key : List ℕ) (old new : CacheState) → Rebuilds old new → is_full_for key new.table.table ≡ is_full_for key old.table.table
+full_same key old new r = λ i. is_full_for key (record { entries = r.keys_are i; edits = r.edits_are i; lines = 0 })

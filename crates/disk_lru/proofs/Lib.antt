@@ -1,3 +1,7 @@
+pub mod Begun
 pub mod Composed
 pub mod Fields
+pub mod Lines
+pub mod Promises
+pub mod Results
 pub mod Runs

@@ -5,22 +5,22 @@ use Rattle.std.specs.List.{AllByRecursion}
 use Rattle.outside.specs.Files.{Folder, FolderHistory, last_of, passed_through}
 use Rattle.cache_folder.specs.Images.{Runs, WasKnown}
 
-all_append : {V : Type 0} (P : V → Type 0) (xs ys : List V) → AllByRecursion P xs → AllByRecursion P ys → AllByRecursion P (xs ++ ys)
+pub all_append : {V : Type 0} (P : V → Type 0) (xs ys : List V) → AllByRecursion P xs → AllByRecursion P ys → AllByRecursion P (xs ++ ys)
 all_append P [] ys h k = k
 all_append P (x ∷ xs) ys h k = (h.0, all_append P xs ys h.1 k)
 
-weaken : {X : Type 0} (P Q : X → Type 0) → ((x : X) → P x → Q x) → (xs : List X) → AllByRecursion P xs → AllByRecursion Q xs
+pub weaken : {X : Type 0} (P Q : X → Type 0) → ((x : X) → P x → Q x) → (xs : List X) → AllByRecursion P xs → AllByRecursion Q xs
 weaken P Q h [] a = tt
 weaken P Q h (x ∷ xs) a = (h x a.0, weaken P Q h xs a.1)
 
-last_append : (f : Folder) (xs ys : List Folder) → last_of f (xs ++ ys) ≡ last_of (last_of f xs) ys
+pub last_append : (f : Folder) (xs ys : List Folder) → last_of f (xs ++ ys) ≡ last_of (last_of f xs) ys
 last_append f [] ys = refl
 last_append f (x ∷ xs) ys = last_append x xs ys
 
 pub same_some : {A : Type 0} (x y : A) → Some x ≡ Some y → x ≡ y
 same_some x y e = ap (λ o. unwrap_or o x) e
 
-passed_append : (h : FolderHistory) (xs ys : List Folder) → passed_through ys (passed_through xs h) ≡ passed_through (xs ++ ys) h
+pub passed_append : (h : FolderHistory) (xs ys : List Folder) → passed_through ys (passed_through xs h) ≡ passed_through (xs ++ ys) h
 passed_append h xs ys i = record {
   held = sym (last_append h.held xs ys) i;
   images = append_assoc h.images xs ys i;

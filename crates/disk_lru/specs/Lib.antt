@@ -1,4 +1,6 @@
 pub mod Calls
 pub mod Faults
+pub mod Past
+pub mod PastSteps
 pub mod State
 pub mod inside

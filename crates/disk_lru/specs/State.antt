@@ -1,11 +1,14 @@
 -- What contracts see of a disk cache, and of an edit.
-use Rattle.std.specs.Prelude.{◌≡◌, ℕ, Bool, false, List, Some}
+use Rattle.std.specs.Prelude.{◌≡◌, ◌⊎◌, ℕ, ◌-◌, ◌<◌, Bool, false, List, length, Some}
 use Rattle.std.specs.declared.option.Option.{Option}
 use Rattle.std.specs.Coded.{Coded, coded_list, coded_ℕ}
 use Rattle.std.specs.FinMap.{code}
 use Rattle.outside.specs.Files.{Folder, FolderHistory}
-use Rattle.disk_table.specs.Table.{edit_of}
-use Rattle.cache_folder.specs.Steps.{Cached}
+use Rattle.disk_table.specs.Table.{edit_of, is_due}
+use Rattle.cache_folder.specs.Journals.{line_count}
+use Rattle.cache_folder.specs.Offered.{offered}
+use Rattle.cache_folder.specs.Steps.{Cached, offers}
+use Rattle.cache_folder.specs.Images.{IfKnown}
 use Rattle.cache_folder.specs.Tables.{Table, CacheTableValue, kept}
 use Rattle.cache_folder.specs.Sound.{listed}
 
@@ -42,6 +45,23 @@ edits cache = cache.table.table.edits
 abbrev pub list_of : Folder → CacheState → Cached (List ℕ)
 list_of folder cache = listed folder (entries cache)
 
+-- the folder offers what the list of the cache offers
+abbrev pub Offers : Folder → CacheState → Type 0
+Offers folder cache = offered folder ≡ offers (list_of folder cache)
+
 -- the edit is open in this cache
 abbrev pub IsOpen : EditValue → CacheState → Type 0
 IsOpen edit cache = (edit.closed ≡ false) × (edit_of edit.key (edits cache) ≡ Some edit.number)
+
+-- ---- the lines of the journal
+
+-- how many lines a rebuild would save
+abbrev pub redundant_lines : Folder → CacheState → ℕ
+redundant_lines folder cache = line_count folder - length (entries cache)
+
+-- DiskLruCache rebuilds its journal where that saves 2,000 lines, and at least as many as there are keys. Where no failure
+-- made a rebuild due, the journal has fewer lines than that, and none is due by their number.
+pub record IsSettled (cache : CacheState) : Type 0 where
+  pub few : cache.due ≡ false → IfKnown cache.history (λ h.
+      (redundant_lines h.held cache < 2000) ⊎ (redundant_lines h.held cache < length (entries cache)))
+  pub counted : cache.due ≡ false → is_due cache.table.table ≡ false

@@ -1,16 +1,17 @@
-// A disk cache.
-ghost use Rattle.std.specs.Prelude.{◌≡◌, ◌⊎◌, ◌+◌, ◌<◌, ◌^◌, ◌++◌, ℕ, length, List, [], ◌∷◌, Bool, true, false, Some, None, Err, IsOk, IsErr, is_err};
+// A disk cache without its past.
+ghost use Rattle.std.specs.Prelude.{◌≡◌, ◌⊎◌, ◌+◌, ◌<◌, ◌^◌, ◌++◌, ℕ, length, List, [], Bool, true, false, Ok, Some, None, Err, IsOk, IsErr, IsSome, IfOk, is_err, set};
+ghost use Rattle.std.specs.FinMap.{get};
 ghost use Rattle.outside.specs.Causes.{HasCause};
-ghost use Rattle.disk_table.specs.UseOrder.{without};
-ghost use Rattle.disk_table.specs.Table.{edit_of};
+ghost use Rattle.disk_table.specs.UseOrder.{is_known, without, used};
+ghost use Rattle.disk_table.specs.Table.{edit_of, free_edit, is_full_for, eldest_over};
 ghost use Rattle.cache_folder.specs.Images.{IfKnown};
-ghost use Rattle.cache_folder.specs.Offered.{edit_name};
-ghost use Rattle.cache_folder.specs.Steps.{Commit, Drop};
-ghost use Rattle.cache_folder.specs.Sound.{text_at, abort_step};
-ghost use Rattle.cache_folder.specs.Tables.{kept, len_at, edit_at, is_offered, committed, aborted, grown_edit};
-ghost use Rattle.disk_lru.specs.State.{CacheState, entries, edits, IsOpen};
-ghost use Rattle.disk_lru.specs.Calls.{Steps, CallOn, Forgets, ClosesEdit};
-ghost use Rattle.disk_lru.specs.inside.Rebuilds.{Rebuilds};
+ghost use Rattle.cache_folder.specs.Offered.{value_name, edit_name};
+ghost use Rattle.cache_folder.specs.Sound.{text_at};
+ghost use Rattle.cache_folder.specs.Tables.{kept, len_at, edit_at, is_offered, begun, committed, aborted, grown_edit};
+ghost use Rattle.disk_lru.specs.State.{CacheState, entries, edits, Offers, IsSettled};
+ghost use Rattle.disk_lru.specs.Calls.{Steps, no_steps, begin_steps, commit_steps, abort_steps, use_steps, drop_steps, CallOn, Makes, Fails, Stays, Forgets, ClosesEdit};
+ghost use Rattle.disk_lru.specs.inside.Kept.{Keeps};
+ghost use Rattle.disk_lru.specs.inside.Rebuilds.{Rebuilds, Took};
 
 use crate::edit::Edit;
 use crate::refusals::DiskFault;
@@ -19,23 +20,21 @@ use journal_lines::Key;
 use outside::{FileFault, Files};
 use std::alloc::Global;
 use std::marker::Model;
+use std::snapshot::Snapshot;
 
-/// A disk cache over files.
+/// The files of a disk cache with its table.
 #[derive(Drop)]
-pub struct DiskLru<F: Files> {
+pub struct OpenCache<F: Files> {
     files: F,
     table: CacheTable,
     maximum: u64,
     due: bool,
 }
 
-impl<F: Files> Model for DiskLru<F> {
-    ghost use Rattle.std.specs.Prelude.{◌≡◌, false};
-    ghost use Rattle.cache_folder.specs.Images.{IfKnown};
-    ghost use Rattle.cache_folder.specs.Tables.{kept};
-    ghost use Rattle.cache_folder.specs.Sound.{IsKept, IsSound};
+impl<F: Files> Model for OpenCache<F> {
     ghost use Rattle.std.specs.Coded.{codes};
     ghost use Rattle.disk_lru.specs.State.{CacheState, folder_code};
+    ghost use Rattle.disk_lru.specs.inside.Kept.{Keeps};
 
     ghost Value = { CacheState };
 
@@ -43,14 +42,29 @@ impl<F: Files> Model for DiskLru<F> {
 
     ghost view = { λ s. record { history = F.history s.files; faults = F.faults s.files; table = s.table; maximum = s.maximum; due = s.due } };
 
-    ghost invariant = { λ s. IfKnown (F.history s.files) (λ h. IsKept h.held (kept s.table) × (s.due ≡ false → IsSound h.held (kept s.table))) };
+    ghost invariant = { λ s. Keeps (F.history s.files) s.table s.due };
 }
 
-impl<F: Files> DiskLru<F> {
+impl<F: Files> OpenCache<F> {
+    /// Files with the table of their entries.
+    pub fn of_parts(files: F, table: CacheTable, maximum: u64, due: bool) -> OpenCache<F>
+        requires { Keeps (F.history files) table due }
+        ensures { result ≡ record { history = F.history files; faults = F.faults files; table = table; maximum = maximum; due = due } }
+    {
+        OpenCache {
+            files,
+            table,
+            maximum,
+            due,
+        }
+    }
+
     // Writes a new journal of the table.
     fn new_journal(&mut self, alloc: Global) -> Result<(), FileFault>
         ensures rebuilds { Rebuilds self.old self.new }
         ensures ready { IsOk result → self.new.due ≡ false }
+        ensures settled { IsOk result → IsSettled self.new }
+        ensures offers_now { IsOk result → IfKnown self.new.history (λ k. Offers k.held self.new) }
         ensures failed { IsErr result → self.new.due ≡ true }
         ensures cause { HasCause self.old.faults self.new.faults (result ≡ Err FileFault.Failed) }
     {
@@ -66,6 +80,7 @@ impl<F: Files> DiskLru<F> {
     fn rebuild_due(&mut self, alloc: Global) -> Result<(), FileFault>
         ensures rebuilds { Rebuilds self.old self.new }
         ensures ready { IsOk result → self.new.due ≡ false }
+        ensures failed { IsErr result → self.new.due ≡ true }
         ensures cause { HasCause self.old.faults self.new.faults (result ≡ Err FileFault.Failed) }
     {
         if !self.due {
@@ -88,8 +103,7 @@ impl<F: Files> DiskLru<F> {
     // Rebuilds the journal where a failure made it due; and where that fails, forgets the key.
     fn ready(&mut self, alloc: Global, key: &Key) -> Result<(), FileFault>
         ensures ok { IsOk result → Rebuilds self.old self.new × (self.new.due ≡ false) }
-        ensures err { IsErr result → Forgets key.now self.old self.new }
-        ensures call { IsErr result → (meant : Steps) → CallOn key.now meant (λ f. Drop key.now ∷ []) self.old self.new }
+        ensures fails { IsErr result → (meant : Steps) → Fails key.now meant self.old self.new }
         ensures maximum { self.new.maximum ≡ self.old.maximum }
         ensures cause { HasCause self.old.faults self.new.faults (result ≡ Err FileFault.Failed) }
     {
@@ -101,12 +115,48 @@ impl<F: Files> DiskLru<F> {
         result
     }
 
-    // Rebuilds the journal where its lines have become too many. Where that fails it is due before the next call's first write.
-    fn settle(&mut self, alloc: Global)
+    /// Rebuilds the journal where its lines have become too many. Where that fails it is due before the next call's first write.
+    pub fn settle(&mut self, alloc: Global)
         ensures rebuilds { Rebuilds self.old self.new }
+        ensures settled { IsSettled self.new }
     {
         if self.table.due() {
             let _ = self.new_journal(alloc);
+        }
+    }
+
+    // Begins an edit of the key, where no rebuild is due.
+    fn begin_now(&mut self, alloc: Global, key: &Key) -> Result<u64, FileFault>
+        requires ready { self.old.due ≡ false }
+        requires closed { edit_of key.now (edits self.old) ≡ None }
+        requires room { is_full_for key.now self.old.table.table ≡ false }
+        ensures ok { IsOk result → entries self.new ≡ begun key.now (entries self.old) }
+        ensures edits { IfOk result (λ number. edits self.new ≡ set (edits self.old) number (Some key.now)) }
+        ensures free { IfOk result (λ number. free_edit (edits self.old) ≡ Some number) }
+        ensures open { IfOk result (λ number. edit_of key.now (edits self.new) ≡ Some number) }
+        ensures within { IfOk result (λ number. number < 16) }
+        ensures empty { IsOk result → IfKnown self.new.history (λ k. text_at k.held (edit_name key.now) ≡ []) }
+        ensures took { IsOk result → Took key.now (begin_steps key.now) self.old self.new }
+        ensures fails { IsErr result → Fails key.now (begin_steps key.now) self.old self.new }
+        ensures maximum { self.new.maximum ≡ self.old.maximum }
+        ensures cause { HasCause self.old.faults self.new.faults (result ≡ Err FileFault.Failed) }
+    {
+        calls_keep_others();
+        let before = Snapshot::of(&self.table);
+        match self.table.begin(key) {
+            Ok(number) => match steps::begin(alloc, &mut self.files, key, &before) {
+                Ok(()) => Ok(number),
+                Err(fault) => {
+                    self.table.forget(key);
+                    self.due = true;
+                    Err(fault)
+                }
+            },
+            Err(_) => {
+                self.table.forget(key);
+                self.due = true;
+                Err(FileFault::Memory)
+            }
         }
     }
 
@@ -116,9 +166,8 @@ impl<F: Files> DiskLru<F> {
         requires open { edit_of key.now (edits self.old) ≡ Some number }
         ensures ok { IsOk result → (n : ℕ) → edit_at key.now (entries self.old) ≡ Some n → entries self.new ≡ committed key.now n (entries self.old) }
         ensures edit { ClosesEdit key.now self.old self.new }
-        ensures err { IsErr result → Forgets key.now self.old self.new }
-        ensures call_ok { IsOk result → CallOn key.now (λ f. Commit key.now (text_at f (edit_name key.now)) ∷ []) (λ f. Commit key.now (text_at f (edit_name key.now)) ∷ []) self.old self.new }
-        ensures call_err { IsErr result → CallOn key.now (λ f. Commit key.now (text_at f (edit_name key.now)) ∷ []) (λ f. Drop key.now ∷ []) self.old self.new }
+        ensures took { IsOk result → Took key.now (commit_steps key.now) self.old self.new }
+        ensures fails { IsErr result → Fails key.now (commit_steps key.now) self.old self.new }
         ensures maximum { self.new.maximum ≡ self.old.maximum }
         ensures cause { HasCause self.old.faults self.new.faults (result ≡ Err FileFault.Failed) }
     {
@@ -143,9 +192,8 @@ impl<F: Files> DiskLru<F> {
         requires open { edit_of key.now (edits self.old) ≡ Some number }
         ensures ok { IsOk result → entries self.new ≡ aborted (len_at key.now (entries self.old)) key.now (entries self.old) }
         ensures edit { ClosesEdit key.now self.old self.new }
-        ensures err { IsErr result → Forgets key.now self.old self.new }
-        ensures call_ok { IsOk result → CallOn key.now (λ f. abort_step (len_at key.now (entries self.old)) key.now ∷ []) (λ f. abort_step (len_at key.now (entries self.old)) key.now ∷ []) self.old self.new }
-        ensures call_err { IsErr result → CallOn key.now (λ f. abort_step (len_at key.now (entries self.old)) key.now ∷ []) (λ f. Drop key.now ∷ []) self.old self.new }
+        ensures took { IsOk result → Took key.now (abort_steps key.now self.old) self.old self.new }
+        ensures fails { IsErr result → Fails key.now (abort_steps key.now self.old) self.old self.new }
         ensures maximum { self.new.maximum ≡ self.old.maximum }
         ensures cause { HasCause self.old.faults self.new.faults (result ≡ Err FileFault.Failed) }
     {
@@ -179,9 +227,8 @@ impl<F: Files> DiskLru<F> {
         requires small { (n : ℕ) → edit_at key.now (entries self.old) ≡ Some n → n + length bytes.now < 2 ^ 40 }
         ensures ok { IsOk result → (n : ℕ) → edit_at key.now (entries self.old) ≡ Some n → entries self.new ≡ grown_edit key.now (n + length bytes.now) (entries self.old) }
         ensures edits { IsOk result → edits self.new ≡ edits self.old }
-        ensures err { IsErr result → Forgets key.now self.old self.new }
-        ensures call_ok { IsOk result → CallOn key.now (λ f. []) (λ f. []) self.old self.new }
-        ensures call_err { IsErr result → CallOn key.now (λ f. []) (λ f. Drop key.now ∷ []) self.old self.new }
+        ensures took { IsOk result → Took key.now no_steps self.old self.new }
+        ensures fails { IsErr result → Fails key.now no_steps self.old self.new }
         ensures text { IsOk result → IfKnown self.old.history (λ h. IfKnown self.new.history (λ k. text_at k.held (edit_name key.now) ≡ text_at h.held (edit_name key.now) ++ bytes.now)) }
         ensures maximum { self.new.maximum ≡ self.old.maximum }
         ensures cause { HasCause self.old.faults self.new.faults (result ≡ Err FileFault.Failed) }
@@ -204,11 +251,11 @@ impl<F: Files> DiskLru<F> {
     // Takes the entry of the key out, where no rebuild is due.
     fn remove_now(&mut self, alloc: Global, key: &Key) -> Result<(), FileFault>
         requires ready { self.old.due ≡ false }
+        requires known { is_known key.now (entries self.old) ≡ true }
         ensures ok { IsOk result → entries self.new ≡ without key.now (entries self.old) }
         ensures edit { ClosesEdit key.now self.old self.new }
-        ensures err { IsErr result → Forgets key.now self.old self.new }
-        ensures call_ok { IsOk result → CallOn key.now (λ f. Drop key.now ∷ []) (λ f. Drop key.now ∷ []) self.old self.new }
-        ensures call_err { IsErr result → CallOn key.now (λ f. Drop key.now ∷ []) (λ f. Drop key.now ∷ []) self.old self.new }
+        ensures took { IsOk result → Took key.now (drop_steps key.now) self.old self.new }
+        ensures fails { IsErr result → Fails key.now (drop_steps key.now) self.old self.new }
         ensures maximum { self.new.maximum ≡ self.old.maximum }
         ensures cause { HasCause self.old.faults self.new.faults (result ≡ Err FileFault.Failed) }
     {
@@ -226,14 +273,63 @@ impl<F: Files> DiskLru<F> {
         }
     }
 
-    // Ends the edit of the key.
-    fn commit_key(&mut self, alloc: Global, key: &Key, number: u64) -> Result<(), FileFault>
+    /// Begins an edit of the key, which has none and for which there is room, and answers its number.
+    pub fn begin(&mut self, alloc: Global, key: &Key) -> Result<u64, FileFault>
+        requires closed { edit_of key.now (edits self.old) ≡ None }
+        requires room { is_full_for key.now self.old.table.table ≡ false }
+        ensures ok { IsOk result → entries self.new ≡ begun key.now (entries self.old) }
+        ensures edits { IfOk result (λ number. edits self.new ≡ set (edits self.old) number (Some key.now)) }
+        ensures free { IfOk result (λ number. free_edit (edits self.old) ≡ Some number) }
+        ensures open { IfOk result (λ number. edit_of key.now (edits self.new) ≡ Some number) }
+        ensures within { IfOk result (λ number. number < 16) }
+        ensures empty { IsOk result → IfKnown self.new.history (λ k. text_at k.held (edit_name key.now) ≡ []) }
+        ensures makes { IsOk result → Makes key.now (begin_steps key.now) self.old self.new }
+        ensures fails { IsErr result → Fails key.now (begin_steps key.now) self.old self.new }
+        ensures maximum { self.new.maximum ≡ self.old.maximum }
+        ensures cause { HasCause self.old.faults self.new.faults (result ≡ Err FileFault.Failed) }
+    {
+        calls_keep_others();
+        self.ready(alloc, key)?;
+        let number = self.begin_now(alloc, key)?;
+        self.settle(alloc);
+        Ok(number)
+    }
+
+    /// The eldest key that is not under edit, where the cache has more than it may.
+    pub fn eldest_over(&self) -> Option<Key>
+        ensures { result ≡ eldest_over self.now.maximum self.now.table.table }
+    {
+        self.table.eldest_over(self.maximum)
+    }
+
+    /// Whether the key has an entry.
+    pub fn knows(&self, key: &Key) -> bool
+        ensures { result ≡ is_known key.now (entries self.now) }
+    {
+        self.table.knows(key)
+    }
+
+    /// The open edit of the key, by its number.
+    pub fn edit_of(&self, key: &Key) -> Option<u64>
+        ensures { result ≡ edit_of key.now (edits self.now) }
+    {
+        self.table.edit_of(key)
+    }
+
+    /// Whether there is no room for an edit of the key, which is not under edit.
+    pub fn is_full_for(&self, key: &Key) -> bool
+        ensures { result ≡ is_full_for key.now self.now.table.table }
+    {
+        self.table.is_full_for(key)
+    }
+
+    /// Ends the edit of the key.
+    pub fn commit(&mut self, alloc: Global, key: &Key, number: u64) -> Result<(), FileFault>
         requires open { edit_of key.now (edits self.old) ≡ Some number }
         ensures ok { IsOk result → (n : ℕ) → edit_at key.now (entries self.old) ≡ Some n → entries self.new ≡ committed key.now n (entries self.old) }
         ensures edit { ClosesEdit key.now self.old self.new }
-        ensures err { IsErr result → Forgets key.now self.old self.new }
-        ensures call_ok { IsOk result → CallOn key.now (λ f. Commit key.now (text_at f (edit_name key.now)) ∷ []) (λ f. Commit key.now (text_at f (edit_name key.now)) ∷ []) self.old self.new }
-        ensures call_err { IsErr result → CallOn key.now (λ f. Commit key.now (text_at f (edit_name key.now)) ∷ []) (λ f. Drop key.now ∷ []) self.old self.new }
+        ensures makes { IsOk result → Makes key.now (commit_steps key.now) self.old self.new }
+        ensures fails { IsErr result → Fails key.now (commit_steps key.now) self.old self.new }
         ensures maximum { self.new.maximum ≡ self.old.maximum }
         ensures cause { HasCause self.old.faults self.new.faults (result ≡ Err FileFault.Failed) }
     {
@@ -244,14 +340,13 @@ impl<F: Files> DiskLru<F> {
         Ok(())
     }
 
-    // Gives the edit of the key up.
-    fn abort_key(&mut self, alloc: Global, key: &Key, number: u64) -> Result<(), FileFault>
+    /// Gives the edit of the key up.
+    pub fn abort(&mut self, alloc: Global, key: &Key, number: u64) -> Result<(), FileFault>
         requires open { edit_of key.now (edits self.old) ≡ Some number }
         ensures ok { IsOk result → entries self.new ≡ aborted (len_at key.now (entries self.old)) key.now (entries self.old) }
         ensures edit { ClosesEdit key.now self.old self.new }
-        ensures err { IsErr result → Forgets key.now self.old self.new }
-        ensures call_ok { IsOk result → CallOn key.now (λ f. abort_step (len_at key.now (entries self.old)) key.now ∷ []) (λ f. abort_step (len_at key.now (entries self.old)) key.now ∷ []) self.old self.new }
-        ensures call_err { IsErr result → CallOn key.now (λ f. abort_step (len_at key.now (entries self.old)) key.now ∷ []) (λ f. Drop key.now ∷ []) self.old self.new }
+        ensures makes { IsOk result → Makes key.now (abort_steps key.now self.old) self.old self.new }
+        ensures fails { IsErr result → Fails key.now (abort_steps key.now self.old) self.old self.new }
         ensures maximum { self.new.maximum ≡ self.old.maximum }
         ensures cause { HasCause self.old.faults self.new.faults (result ≡ Err FileFault.Failed) }
     {
@@ -262,13 +357,13 @@ impl<F: Files> DiskLru<F> {
         Ok(())
     }
 
-    // Takes the entry of the key out.
-    fn remove_key(&mut self, alloc: Global, key: &Key) -> Result<(), FileFault>
+    /// Takes the entry of the key out.
+    pub fn remove(&mut self, alloc: Global, key: &Key) -> Result<(), FileFault>
+        requires known { is_known key.now (entries self.old) ≡ true }
         ensures ok { IsOk result → entries self.new ≡ without key.now (entries self.old) }
         ensures edit { ClosesEdit key.now self.old self.new }
-        ensures err { IsErr result → Forgets key.now self.old self.new }
-        ensures call_ok { IsOk result → CallOn key.now (λ f. Drop key.now ∷ []) (λ f. Drop key.now ∷ []) self.old self.new }
-        ensures call_err { IsErr result → CallOn key.now (λ f. Drop key.now ∷ []) (λ f. Drop key.now ∷ []) self.old self.new }
+        ensures makes { IsOk result → Makes key.now (drop_steps key.now) self.old self.new }
+        ensures fails { IsErr result → Fails key.now (drop_steps key.now) self.old self.new }
         ensures maximum { self.new.maximum ≡ self.old.maximum }
         ensures cause { HasCause self.old.faults self.new.faults (result ≡ Err FileFault.Failed) }
     {
@@ -279,8 +374,8 @@ impl<F: Files> DiskLru<F> {
         Ok(())
     }
 
-    // Adds bytes to the edit of the key.
-    fn write_key(
+    /// Adds bytes to the edit of the key.
+    pub fn write(
         &mut self,
         alloc: Global,
         key: &Key,
@@ -293,9 +388,8 @@ impl<F: Files> DiskLru<F> {
         ensures ok { IsOk result → (n : ℕ) → edit_at key.now (entries self.old) ≡ Some n → entries self.new ≡ grown_edit key.now (n + length bytes.now) (entries self.old) }
         ensures edits { IsOk result → edits self.new ≡ edits self.old }
         ensures text { IsOk result → IfKnown self.old.history (λ h. IfKnown self.new.history (λ k. text_at k.held (edit_name key.now) ≡ text_at h.held (edit_name key.now) ++ bytes.now)) }
-        ensures err { IsErr result → Forgets key.now self.old self.new }
-        ensures call_ok { IsOk result → CallOn key.now (λ f. []) (λ f. []) self.old self.new }
-        ensures call_err { IsErr result → CallOn key.now (λ f. []) (λ f. Drop key.now ∷ []) self.old self.new }
+        ensures makes { IsOk result → Makes key.now no_steps self.old self.new }
+        ensures fails { IsErr result → Fails key.now no_steps self.old self.new }
         ensures maximum { self.new.maximum ≡ self.old.maximum }
         ensures cause { HasCause self.old.faults self.new.faults (result ≡ Err FileFault.Failed) }
     {
@@ -306,94 +400,30 @@ impl<F: Files> DiskLru<F> {
         Ok(())
     }
 
-    /// Whether the key has a readable entry and is not under edit.
+    /// Whether the key has a readable value and is not under edit.
     pub fn has(&self, key: &Key) -> bool
         ensures { result ≡ is_offered key.now (entries self.now) }
     {
         self.table.has(key)
     }
 
-    /// Ends the edit with the bytes that were written to it: its file takes the name of the entry's, and the journal gets a line
-    /// CLEAN. Where a failure made a rebuild due, that comes first; one that is due by the number of lines comes last.
-    pub fn commit(&mut self, alloc: Global, edit: Edit) -> Result<(), DiskFault>
-        requires { IsOpen edit self.old }
-        ensures ok { IsOk result → (n : ℕ) → edit_at edit.key (entries self.old) ≡ Some n → entries self.new ≡ committed edit.key n (entries self.old) }
-        ensures edit { ClosesEdit edit.key self.old self.new }
-        ensures err { IsErr result → Forgets edit.key self.old self.new }
-        ensures call_ok { IsOk result → CallOn edit.key (λ f. Commit edit.key (text_at f (edit_name edit.key)) ∷ []) (λ f. Commit edit.key (text_at f (edit_name edit.key)) ∷ []) self.old self.new }
-        ensures call_err { IsErr result → CallOn edit.key (λ f. Commit edit.key (text_at f (edit_name edit.key)) ∷ []) (λ f. Drop edit.key ∷ []) self.old self.new }
-        ensures maximum { self.new.maximum ≡ self.old.maximum }
-        ensures cause { HasCause self.old.faults self.new.faults (result ≡ Err DiskFault.Failed) }
-    {
-        let (key, number, _) = edit.into_parts();
-        self.commit_key(alloc, &key, number)?;
-        Ok(())
-    }
-
-    /// Adds bytes to the edit. A call that fails closes it.
-    pub fn write(&mut self, alloc: Global, edit: &mut Edit, bytes: &[u8]) -> Result<(), DiskFault>
-        requires open { IsOpen edit.old self.old }
-        requires small { (n : ℕ) → edit_at edit.old.key (entries self.old) ≡ Some n → n + length bytes.now < 2 ^ 40 }
-        ensures token { edit.new ≡ record edit.old { closed = is_err result } }
-        ensures ok { IsOk result → (n : ℕ) → edit_at edit.old.key (entries self.old) ≡ Some n → entries self.new ≡ grown_edit edit.old.key (n + length bytes.now) (entries self.old) }
-        ensures edits { IsOk result → edits self.new ≡ edits self.old }
-        ensures text { IsOk result → IfKnown self.old.history (λ h. IfKnown self.new.history (λ k. text_at k.held (edit_name edit.old.key) ≡ text_at h.held (edit_name edit.old.key) ++ bytes.now)) }
-        ensures err { IsErr result → Forgets edit.old.key self.old self.new }
-        ensures call_ok { IsOk result → CallOn edit.old.key (λ f. []) (λ f. []) self.old self.new }
-        ensures call_err { IsErr result → CallOn edit.old.key (λ f. []) (λ f. Drop edit.old.key ∷ []) self.old self.new }
-        ensures maximum { self.new.maximum ≡ self.old.maximum }
-        ensures cause { HasCause self.old.faults self.new.faults (result ≡ Err DiskFault.Failed) }
-    {
-        let key = *edit.key();
-        let number = edit.number();
-        let result = self.write_key(alloc, &key, number, bytes);
-        if result.is_err() {
-            edit.close();
-        }
-        result?;
-        Ok(())
-    }
-
-    /// Gives the edit up: its file goes, and the journal gets a line CLEAN with the length of what was readable, or REMOVE. An edit
-    /// that a failed write closed is given up already.
-    pub fn abort(&mut self, alloc: Global, edit: Edit) -> Result<(), DiskFault>
-        requires { edit.closed ≡ false → IsOpen edit self.old }
-        ensures closed { edit.closed ≡ true → IsOk result × (self.new ≡ self.old) }
-        ensures ok { edit.closed ≡ false → IsOk result → entries self.new ≡ aborted (len_at edit.key (entries self.old)) edit.key (entries self.old) }
-        ensures edit { edit.closed ≡ false → ClosesEdit edit.key self.old self.new }
-        ensures err { IsErr result → Forgets edit.key self.old self.new }
-        ensures call_ok { edit.closed ≡ false → IsOk result → CallOn edit.key (λ f. abort_step (len_at edit.key (entries self.old)) edit.key ∷ []) (λ f. abort_step (len_at edit.key (entries self.old)) edit.key ∷ []) self.old self.new }
-        ensures call_err { IsErr result → CallOn edit.key (λ f. abort_step (len_at edit.key (entries self.old)) edit.key ∷ []) (λ f. Drop edit.key ∷ []) self.old self.new }
-        ensures maximum { self.new.maximum ≡ self.old.maximum }
-        ensures cause { HasCause self.old.faults self.new.faults (result ≡ Err DiskFault.Failed) }
-    {
-        let (key, number, closed) = edit.into_parts();
-        if closed {
-            return Ok(());
-        }
-        self.abort_key(alloc, &key, number)?;
-        Ok(())
-    }
-
     /// Writes a new journal of the table's entries, the eldest first.
-    pub fn rebuild(&mut self, alloc: Global) -> Result<(), DiskFault>
-        ensures entries { entries self.new ≡ entries self.old }
-        ensures edits { edits self.new ≡ edits self.old }
-        ensures call { (key : List ℕ) → CallOn key (λ f. []) (λ f. []) self.old self.new }
-        ensures due { (self.new.due ≡ false) ⊎ IsErr result }
-        ensures maximum { self.new.maximum ≡ self.old.maximum }
-        ensures cause { HasCause self.old.faults self.new.faults (result ≡ Err DiskFault.Failed) }
+    pub fn rebuild(&mut self, alloc: Global) -> Result<(), FileFault>
+        ensures rebuilds { Rebuilds self.old self.new }
+        ensures call { (key : List ℕ) → CallOn key no_steps no_steps self.old self.new }
+        ensures makes { IsOk result → (key : List ℕ) → Makes key no_steps self.old self.new }
+        ensures due { IsErr result → self.new.due ≡ true }
+        ensures cause { HasCause self.old.faults self.new.faults (result ≡ Err FileFault.Failed) }
     {
         calls_keep_others();
-        self.new_journal(alloc)?;
-        Ok(())
+        self.new_journal(alloc)
     }
 
     /// Hands the files back.
     pub fn into_files(self) -> F
         ensures { (F.history result ≡ self.history) × (F.faults result ≡ self.faults) }
     {
-        let DiskLru { files, .. } = self;
+        let OpenCache { files, .. } = self;
         files
     }
 }

@@ -3,9 +3,11 @@
 #![tactic(auto)]
 
 mod cache;
+mod disk;
 mod edit;
+mod past;
 mod refusals;
 
-pub use cache::DiskLru;
+pub use disk::DiskLru;
 pub use edit::Edit;
 pub use refusals::{BeginRefused, DiskFault, RemoveRefused, StartRefused};

@@ -5,7 +5,7 @@ use Rattle.disk_table.specs.Table.{TableValue, edit_of}
 use Rattle.disk_table.specs.declared.table.EditRefused.{EditRefused}
 use Rattle.disk_table.specs.declared.table.EditRefused.TheVariants.{Busy}
 use Rattle.cache_folder.specs.Tables.{CacheTableValue, kept, begun}
-use Rattle.cache_folder.proofs.Edits.{opened_own}
+use Rattle.cache_folder.proofs.Edits.{opened_own, opened_other}
 use Rattle.cache_folder.proofs.Kept.{few_kept, begun_kept}
 use Rattle.cache_folder.proofs.table.CacheTable.begin.Goals as goal
 
@@ -36,3 +36,6 @@ returns-clause-busy c = subst (λ (t : CacheTableValue). (m : ℕ) → IsErrOf {
 
 pub returns-clause-few : goal.returns-clause-few
 returns-clause-few c = few_kept (record { table = c.open_edit.new.self; written = set c.self.inside.written c.in_ok-number.number 0 }) (begun c.args.key.now (kept c.args.self.now)) (returns-clause-kept c) c.keys-few.ensures.few
+
+pub returns-clause-others : goal.returns-clause-others
+returns-clause-others c = λ k ne. ap (λ (t : TableValue). edit_of k t.edits) c.in_ok-number.ensures.table ∙ opened_other c.args.key.now k c.self.inside.table.edits c.in_ok-number.number ne c.in_ok-number.ensures.number ∙ ap (λ (t : CacheTableValue). edit_of k t.table.edits) c.self.view_is

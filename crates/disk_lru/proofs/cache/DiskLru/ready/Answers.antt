@@ -1,9 +1,0 @@
-use Rattle.disk_lru.proofs.Composed.{call_unready}
-use Rattle.disk_lru.proofs.Fields.{forgets_after}
-use Rattle.disk_lru.proofs.cache.DiskLru.ready.Goals as goal
-
-pub returns-then-is_err-clause-err : goal.returns-then-is_err-clause-err
-returns-then-is_err-clause-err g c = λ failed. forgets_after c.args.key.now c.args.self.now c.rebuild_due-result.new.self c.fail.new.self c.rebuild_due-result.ensures.rebuilds c.fail.ensures.forgets
-
-pub returns-then-is_err-clause-call : goal.returns-then-is_err-clause-call
-returns-then-is_err-clause-call g c = λ failed meant. call_unready c.calls_keep_others.ensures c.args.key.now meant c.args.self.now c.rebuild_due-result.new.self c.fail.new.self c.rebuild_due-result.ensures.rebuilds c.fail.ensures.files.0 c.fail.ensures.forgets.entries_are

@@ -1,0 +1,191 @@
+// A disk cache.
+ghost use Rattle.std.specs.Prelude.{◌≡◌, ◌⊎◌, ◌+◌, ◌<◌, ◌^◌, ◌++◌, ℕ, length, List, [], Bool, true, false, Ok, Some, None, Err, IsOk, IsErr, IsSome, IfOk, is_err};
+ghost use Rattle.std.specs.FinMap.{get};
+ghost use Rattle.outside.specs.Causes.{HasCause};
+ghost use Rattle.disk_table.specs.UseOrder.{is_known, without, used};
+ghost use Rattle.disk_table.specs.Table.{edit_of, is_full_for, eldest_over};
+ghost use Rattle.cache_folder.specs.Images.{IfKnown, WasKnown, Runs};
+ghost use Rattle.cache_folder.specs.Offered.{value_name, edit_name, offered};
+ghost use Rattle.cache_folder.specs.Sound.{text_at};
+ghost use Rattle.cache_folder.specs.Tables.{kept, len_at, edit_at, is_offered, begun, committed, aborted, grown_edit};
+ghost use Rattle.disk_lru.specs.State.{CacheState, entries, edits, list_of, IsOpen, IsSettled};
+ghost use Rattle.disk_lru.specs.Calls.{Steps, no_steps, begin_steps, commit_steps, abort_steps, use_steps, drop_steps, CallOn, Makes, Fails, Stays, ClosesEdit, Unchanged};
+ghost use Rattle.disk_lru.specs.Past.{PastValue, DiskState, Promise, opening, at_start, steps_at, after_call};
+
+use crate::cache::OpenCache;
+use crate::edit::Edit;
+use crate::past::{ListStep, Past, note, started};
+use crate::refusals::DiskFault;
+use journal_lines::Key;
+use outside::Files;
+use std::alloc::Global;
+use std::marker::Model;
+use std::snapshot::Snapshot;
+
+/// A disk cache over files. For contracts alone it keeps what it has done since it was started.
+#[derive(Drop)]
+pub struct DiskLru<F: Files> {
+    cache: OpenCache<F>,
+    past: Snapshot<Past>,
+}
+
+impl<F: Files> Model for DiskLru<F> {
+    ghost use Rattle.std.specs.Coded.{codes};
+    ghost use Rattle.disk_lru.specs.State.{folder_code};
+    ghost use Rattle.disk_lru.specs.Past.{DiskState, Promise};
+
+    ghost Value = { DiskState };
+
+    ghost coded = { Prim.hlevel (codes, folder_code) };
+
+    ghost view = { λ s. record { cache = s.cache; past = s.past.value } };
+
+    ghost invariant = { λ s. Promise (record { cache = s.cache; past = s.past.value }) };
+}
+
+impl<F: Files> DiskLru<F> {
+    // A cache that was started just now. The snapshot is of the files when `start` was called.
+    pub fn of_start(cache: OpenCache<F>, before: &Snapshot<F>) -> DiskLru<F>
+        requires known { WasKnown (F.history before.now.value) cache.history }
+        requires moments { IfKnown (F.history before.now.value) (λ h.
+            Runs (λ c. offered c ≡ offered h.held) h cache.history) }
+        requires list { IfKnown (F.history before.now.value) (λ h. IfKnown cache.history (λ k.
+            list_of k.held cache ≡ opening h)) }
+        ensures cache { result.cache ≡ cache }
+        ensures past { result.past ≡ at_start (F.history before.now.value) }
+    {
+        DiskLru {
+            cache,
+            past: started(before),
+        }
+    }
+
+    /// What the files offer at each moment since `start` was called.
+    pub fn promise(&self)
+        ensures { Promise self.now }
+    {
+        let _ = &self.cache;
+    }
+
+    /// Whether the key has a readable entry and is not under edit.
+    pub fn has(&self, key: &Key) -> bool
+        ensures { result ≡ is_offered key.now (entries self.now.cache) }
+    {
+        self.cache.has(key)
+    }
+
+    /// Ends the edit with the bytes that were written to it: its file takes the name of the entry's, and the journal gets a line
+    /// CLEAN. Where a failure made a rebuild due, that comes first; one that is due by the number of lines comes last.
+    pub fn commit(&mut self, alloc: Global, edit: Edit) -> Result<(), DiskFault>
+        requires { IsOpen edit self.old.cache }
+        ensures ok { IsOk result → (n : ℕ) → edit_at edit.key (entries self.old.cache) ≡ Some n
+            → entries self.new.cache ≡ committed edit.key n (entries self.old.cache) }
+        ensures edit { ClosesEdit edit.key self.old.cache self.new.cache }
+        ensures makes { IsOk result → Makes edit.key (commit_steps edit.key) self.old.cache self.new.cache }
+        ensures fails { IsErr result → Fails edit.key (commit_steps edit.key) self.old.cache self.new.cache }
+        ensures past { self.new.past ≡ after_call (steps_at self.old.cache.history (commit_steps edit.key))
+            (is_err result) self.old.past }
+        ensures maximum { self.new.cache.maximum ≡ self.old.cache.maximum }
+        ensures cause { HasCause self.old.cache.faults self.new.cache.faults (result ≡ Err DiskFault.Failed) }
+    {
+        let (key, number, _) = edit.into_parts();
+        let before = Snapshot::of(&self.cache);
+        let result = self.cache.commit(alloc, &key, number);
+        note(
+            &mut self.past,
+            before,
+            ListStep::Commit(key),
+            result.is_err(),
+        );
+        result?;
+        Ok(())
+    }
+
+    /// Adds bytes to the edit. A call that fails closes it.
+    pub fn write(&mut self, alloc: Global, edit: &mut Edit, bytes: &[u8]) -> Result<(), DiskFault>
+        requires open { IsOpen edit.old self.old.cache }
+        requires small { (n : ℕ) → edit_at edit.old.key (entries self.old.cache) ≡ Some n → n + length bytes.now < 2 ^ 40 }
+        ensures token { edit.new ≡ record edit.old { closed = is_err result } }
+        ensures ok { IsOk result → (n : ℕ) → edit_at edit.old.key (entries self.old.cache) ≡ Some n
+            → entries self.new.cache ≡ grown_edit edit.old.key (n + length bytes.now) (entries self.old.cache) }
+        ensures edits { IsOk result → edits self.new.cache ≡ edits self.old.cache }
+        ensures text { IsOk result → IfKnown self.old.cache.history (λ h. IfKnown self.new.cache.history (λ k.
+            text_at k.held (edit_name edit.old.key) ≡ text_at h.held (edit_name edit.old.key) ++ bytes.now)) }
+        ensures makes { IsOk result → Makes edit.old.key no_steps self.old.cache self.new.cache }
+        ensures fails { IsErr result → Fails edit.old.key no_steps self.old.cache self.new.cache }
+        ensures past { self.new.past ≡ after_call (steps_at self.old.cache.history no_steps)
+            (is_err result) self.old.past }
+        ensures maximum { self.new.cache.maximum ≡ self.old.cache.maximum }
+        ensures cause { HasCause self.old.cache.faults self.new.cache.faults (result ≡ Err DiskFault.Failed) }
+    {
+        let key = *edit.key();
+        let number = edit.number();
+        let before = Snapshot::of(&self.cache);
+        let result = self.cache.write(alloc, &key, number, bytes);
+        note(&mut self.past, before, ListStep::Nothing, result.is_err());
+        if result.is_err() {
+            edit.close();
+        }
+        result?;
+        Ok(())
+    }
+
+    /// Gives the edit up: its file goes, and the journal gets a line CLEAN with the length of what was readable, or REMOVE. An
+    /// edit that a failed write closed is given up already.
+    pub fn abort(&mut self, alloc: Global, edit: Edit) -> Result<(), DiskFault>
+        requires { edit.closed ≡ false → IsOpen edit self.old.cache }
+        ensures closed { edit.closed ≡ true → IsOk result × (self.new ≡ self.old) }
+        ensures ok { edit.closed ≡ false → IsOk result → entries self.new.cache
+            ≡ aborted (len_at edit.key (entries self.old.cache)) edit.key (entries self.old.cache) }
+        ensures edit { edit.closed ≡ false → ClosesEdit edit.key self.old.cache self.new.cache }
+        ensures makes { edit.closed ≡ false → IsOk result
+            → Makes edit.key (abort_steps edit.key self.old.cache) self.old.cache self.new.cache }
+        ensures fails { IsErr result
+            → Fails edit.key (abort_steps edit.key self.old.cache) self.old.cache self.new.cache }
+        ensures past { edit.closed ≡ false → self.new.past
+            ≡ after_call (steps_at self.old.cache.history (abort_steps edit.key self.old.cache)) (is_err result) self.old.past }
+        ensures maximum { self.new.cache.maximum ≡ self.old.cache.maximum }
+        ensures cause { HasCause self.old.cache.faults self.new.cache.faults (result ≡ Err DiskFault.Failed) }
+    {
+        let (key, number, closed) = edit.into_parts();
+        if closed {
+            return Ok(());
+        }
+        let before = Snapshot::of(&self.cache);
+        let result = self.cache.abort(alloc, &key, number);
+        note(
+            &mut self.past,
+            before,
+            ListStep::Abort(key),
+            result.is_err(),
+        );
+        result?;
+        Ok(())
+    }
+
+    /// Writes a new journal of the table's entries, the eldest first.
+    pub fn rebuild(&mut self, alloc: Global) -> Result<(), DiskFault>
+        ensures entries { entries self.new.cache ≡ entries self.old.cache }
+        ensures edits { edits self.new.cache ≡ edits self.old.cache }
+        ensures call { (key : List ℕ) → CallOn key no_steps no_steps self.old.cache self.new.cache }
+        ensures makes { IsOk result → (key : List ℕ) → Makes key no_steps self.old.cache self.new.cache }
+        ensures due { IsErr result → self.new.cache.due ≡ true }
+        ensures past { self.new.past ≡ after_call (steps_at self.old.cache.history no_steps) (is_err result) self.old.past }
+        ensures maximum { self.new.cache.maximum ≡ self.old.cache.maximum }
+        ensures cause { HasCause self.old.cache.faults self.new.cache.faults (result ≡ Err DiskFault.Failed) }
+    {
+        let before = Snapshot::of(&self.cache);
+        let result = self.cache.rebuild(alloc);
+        note(&mut self.past, before, ListStep::Nothing, result.is_err());
+        result?;
+        Ok(())
+    }
+
+    /// Hands the files back.
+    pub fn into_files(self) -> F
+        ensures { (F.history result ≡ self.cache.history) × (F.faults result ≡ self.cache.faults) }
+    {
+        let DiskLru { cache, .. } = self;
+        cache.into_files()
+    }
+}
