@@ -11,11 +11,11 @@ use Rattle.cache_folder.specs.Allowed.{Pass, value_of, values_of, handed_in, han
 use Rattle.cache_folder.proofs.Lists.{all_append}
 
 module _ (allowed : List ℕ × List ℕ → Bool) where
-  split_left : (xs ys : List (List ℕ × List ℕ)) → Pass allowed (xs ++ ys) → Pass allowed xs
+  pub split_left : (xs ys : List (List ℕ × List ℕ)) → Pass allowed (xs ++ ys) → Pass allowed xs
   split_left [] ys h = tt
   split_left (x ∷ xs) ys h = (h.0, split_left xs ys h.1)
 
-  split_right : (xs ys : List (List ℕ × List ℕ)) → Pass allowed (xs ++ ys) → Pass allowed ys
+  pub split_right : (xs ys : List (List ℕ × List ℕ)) → Pass allowed (xs ++ ys) → Pass allowed ys
   split_right [] ys h = h
   split_right (x ∷ xs) ys h = split_right xs ys h.1
 

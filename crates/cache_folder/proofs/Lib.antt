@@ -7,6 +7,7 @@ pub mod Folders
 pub mod Journaled
 pub mod Kept
 pub mod Lists
+pub mod Lost
 pub mod Mapped
 pub mod NewJournal
 pub mod NewText

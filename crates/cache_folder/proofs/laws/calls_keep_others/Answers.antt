@@ -7,6 +7,7 @@ use Rattle.cache_folder.specs.Sound.{Fits, IsKept, SameBut, SameEntries}
 use Rattle.cache_folder.proofs.Allowed.{steps_pass, offers_pass}
 use Rattle.cache_folder.proofs.Apart.{journal-edit, value-edit, edit-edit, flip}
 use Rattle.cache_folder.proofs.Journaled.{JournalLaws}
+use Rattle.cache_folder.proofs.Lost.{lost_kept, lost_listed, lost_edit, lost_allowed}
 use Rattle.cache_folder.proofs.Mapped.{all_without, length_without, once_without}
 use Rattle.cache_folder.proofs.Calls.{fits_other, other_values, listed_without, listed_all, offered_sound}
 use Rattle.cache_folder.proofs.NewJournal.{kept_same, entries_values, entries_edits}
@@ -30,6 +31,10 @@ returns c =
       entries_kept = kept_same laws;
       entries_listed = λ f g t same. listed_all laws f g t (entries_values laws f g same);
       entries_edits = λ k f g same. entries_edits laws f g same k;
+      lost_kept = λ key f g t lost. lost_kept key f g lost t;
+      lost_listed = λ key f g t lost. lost_listed key f g lost t;
+      lost_edits = λ key k f g lost. lost_edit key f g lost k;
+      lost_allowed = λ allowed key f g t lost. lost_allowed key f g lost allowed t;
       sound_offers = offered_sound laws;
       steps_allowed = steps_pass;
       offers_allowed = offers_pass;
