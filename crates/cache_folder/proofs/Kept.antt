@@ -100,7 +100,7 @@ grown_kept (e ∷ es) edits written key n more is within = λ i. (e.0, here (byt
 
 -- ---- an edit that is closed, as `close_edit` says it
 
-is_none : (o : Option ℕ) → is_some o ≡ false → o ≡ None
+pub is_none : (o : Option ℕ) → is_some o ≡ false → o ≡ None
 is_none None h = refl
 is_none (Some n) h = cc
 

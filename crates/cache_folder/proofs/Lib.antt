@@ -3,6 +3,7 @@ pub mod Apart
 pub mod Calls
 pub mod Counting
 pub mod Edits
+pub mod Eldest
 pub mod Folders
 pub mod Journaled
 pub mod Kept

@@ -192,7 +192,9 @@ impl CacheTable {
     /// The eldest key that is not under edit, where the lengths are together above the maximum in bytes or there are more
     /// than 16,384 keys.
     pub fn eldest_over(&self, maximum: u64) -> Option<Key>
-        ensures { result ≡ eldest_over maximum self.now.table }
+        ensures key { result ≡ eldest_over maximum self.now.table }
+        ensures known { IfSome result (λ key. is_known key (kept self.now) ≡ true) }
+        ensures closed { IfSome result (λ key. edit_of key self.now.table.edits ≡ None) }
     {
         self.table.eldest_over(maximum)
     }

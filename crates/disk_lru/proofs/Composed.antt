@@ -7,11 +7,11 @@ use Rattle.disk_table.specs.Table.{edit_of}
 use Rattle.cache_folder.specs.Offered.{edit_name, offered}
 use Rattle.cache_folder.specs.Steps.{Drop, all_stepped, offers}
 use Rattle.cache_folder.specs.Images.{IfKnown, WasKnown, Runs, OffersEither}
-use Rattle.cache_folder.specs.Sound.{listed, SameEntries, Way, Done, RebuildWay}
+use Rattle.cache_folder.specs.Sound.{listed, SameEntries, MayLose, Way, Done, RebuildWay}
 use Rattle.cache_folder.specs.Allowed.{Pass, IsWithin, values_of, handed_by}
 use Rattle.cache_folder.specs.Laws.{CacheLaws}
-use Rattle.disk_lru.specs.State.{CacheState, entries, list_of, Offers, IsSettled}
-use Rattle.disk_lru.specs.Calls.{Steps, StaysWithin, OffersOneOf, Passage, CallOn, Makes, Fails}
+use Rattle.disk_lru.specs.State.{CacheState, entries, edits, list_of, Offers, IsSettled}
+use Rattle.disk_lru.specs.Calls.{Steps, drop_steps, StaysWithin, OffersOneOf, Passage, CallOn, Makes, Fails, Stays}
 use Rattle.disk_lru.specs.inside.Rebuilds.{Rebuilds, Took}
 use Rattle.disk_lru.proofs.Runs.{run_none, run_more, run_weaken, run_has, known_more, same_some}
 
@@ -213,6 +213,58 @@ module _ (laws : CacheLaws) where
 
   pub call_rebuild : (key : List ℕ) (old new : CacheState) → Rebuilds old new → CallOn key (λ f. []) (λ f. []) old new
   call_rebuild key old new r = call_rebuilt key (λ f. []) old old new (call_none key old) r
+
+  -- ---- an eviction that failed
+
+  abbrev pub Lost : List ℕ → CacheState → CacheState → Type 0
+  Lost key old new = IfKnown old.history (λ h. IfKnown new.history (λ k. MayLose key h.held k.held))
+
+  pub stays_now : (key : List ℕ) (old new : CacheState) → WasKnown old.history new.history → MeantWays key (drop_steps key) old new → Lost key old new → entries new ≡ entries old → edits new ≡ edits old → Stays key old new
+  stays_now key old new known ways lost entries_are edits_are = record {
+    passage = record {
+      known = known;
+      moments = λ h e. run_weaken _ _ h new.history (λ c w. inr w.0) (ways h e);
+      allows = λ h e allowed w pass.
+          let moments : Runs (λ c. Pass allowed (offered c)) h new.history = run_weaken _ (λ c. Pass allowed (offered c)) h new.history
+          (λ c x. elim x.0 as (λ _. Pass allowed (offered c)) [
+            | inl y ↦ subst (Pass allowed) (sym y) (laws.offers_allowed allowed (list_of h.held old) w.keeps_allowed)
+            | inr y ↦ subst (Pass allowed) (sym y) (laws.offers_allowed allowed (without key (list_of h.held old)) (laws.steps_allowed allowed (list_of h.held old) (Drop key ∷ []) w.keeps_allowed tt))
+          ]) (ways h e) in
+          record {
+            moments = moments;
+            within = λ k e'. record {
+              offers_allowed = run_has _ h k new.history moments e';
+              keeps_allowed = subst (λ t. Pass allowed (values_of (listed k.held t))) (sym entries_are) (laws.lost_allowed allowed key h.held k.held (entries old) (lost h e k e') w.keeps_allowed);
+            };
+          };
+    };
+    entries_are = entries_are;
+    edits_are = edits_are;
+    others = λ h e k e'. ap (λ t. without key (listed k.held t)) entries_are ∙ laws.lost_listed key h.held k.held (entries old) (lost h e k e');
+    files = λ h e k e' any. laws.lost_edits key any h.held k.held (lost h e k e');
+  }
+
+  pub stays_unready : (key : List ℕ) (old new : CacheState) → Rebuilds old new → Stays key old new
+  stays_unready key old new r = record {
+    passage = record {
+      known = r.known;
+      moments = λ h e. run_weaken _ _ h new.history (λ c w. elim w as (λ _. OffersOneOf h.held (list_of h.held old) (without key (list_of h.held old)) c) [ inl y ↦ inl y | inr y ↦ inr (inl y) ]) (rebuild_moments old new r h e);
+      allows = λ h e allowed w pass. rebuilt_within old new r h e allowed w;
+    };
+    entries_are = r.entries_are;
+    edits_are = r.edits_are;
+    others = λ h e k e'. ap (without key) (rebuilt_list old new r h k e e');
+    files = λ h e k e' any. laws.entries_edits any h.held k.held (same_entries old new r h k e e');
+  }
+
+  pub stays_after : (key : List ℕ) (old mid new : CacheState) → Rebuilds old mid → Stays key mid new → Stays key old new
+  stays_after key old mid new r x = record {
+    passage = passage_ready (drop_steps key) old mid new r (λ f g same. refl) x.passage;
+    entries_are = x.entries_are ∙ r.entries_are;
+    edits_are = x.edits_are ∙ r.edits_are;
+    others = λ h e k e'. let m = x.passage.known k e' in x.others m.0 m.1 k e' ∙ ap (without key) (rebuilt_list old mid r h m.0 e m.1);
+    files = λ h e k e' any. let m = x.passage.known k e' in x.files m.0 m.1 k e' any ∙ laws.entries_edits any h.held m.0.held (same_entries old mid r h m.0 e m.1);
+  }
 
   -- ---- a whole call
 

@@ -12,11 +12,11 @@ use Rattle.cache_folder.specs.Tables.{Table, CacheTableValue, kept}
 use Rattle.cache_folder.specs.Sound.{IsKept, IsSound, SameBut, RebuildWay, Done}
 use Rattle.cache_folder.specs.Laws.{CacheLaws}
 use Rattle.disk_lru.specs.State.{CacheState, entries, edits, list_of}
-use Rattle.disk_lru.specs.Calls.{Steps, CallOn, ClosesEdit, Forgets, Fails}
+use Rattle.disk_lru.specs.Calls.{Steps, drop_steps, CallOn, ClosesEdit, Forgets, Fails, Stays}
 use Rattle.disk_lru.specs.inside.Kept.{IsCounted, Keeps}
 use Rattle.disk_lru.specs.inside.Rebuilds.{Rebuilds, Took}
 use Rattle.disk_lru.proofs.Runs.{run_has, run_none, same_some}
-use Rattle.disk_lru.proofs.Composed.{MeantWays, call_done, call_failed, call_unready}
+use Rattle.disk_lru.proofs.Composed.{MeantWays, call_done, call_failed, call_unready, Lost, stays_now}
 
 -- ---- the count of lines
 
@@ -140,6 +140,11 @@ fails_early laws s old new key meant same files is own others due = record {
   forgets = forgets_by s old new key same is own others due;
   call = subst (λ x. CallOn key meant (λ f. Drop key ∷ []) x new) same (call_unready laws key meant s s new (rebuilds_none s) files is);
 }
+
+-- an eviction that failed
+pub stays_by : (laws : CacheLaws) (s old new : CacheState) (key : List ℕ) → s ≡ old → WasKnown s.history new.history → MeantWays laws key (drop_steps key) s new → Lost laws key s new
+    → entries new ≡ entries s → edits new ≡ edits s → Stays key old new
+stays_by laws s old new key same known ways lost entries_are edits_are = subst (λ x. Stays key x new) same (stays_now laws key s new known ways lost entries_are edits_are)
 
 -- whether there is room for an edit is as it was
 pub full_same : (key : List ℕ) (old new : CacheState) → Rebuilds old new → is_full_for key new.table.table ≡ is_full_for key old.table.table

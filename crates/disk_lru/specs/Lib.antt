@@ -3,4 +3,5 @@ pub mod Faults
 pub mod Past
 pub mod PastSteps
 pub mod State
+pub mod Trims
 pub mod inside

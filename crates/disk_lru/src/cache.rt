@@ -1,5 +1,5 @@
 // A disk cache without its past.
-ghost use Rattle.std.specs.Prelude.{◌≡◌, ◌⊎◌, ◌+◌, ◌<◌, ◌^◌, ◌++◌, ℕ, length, List, [], Bool, true, false, Ok, Some, None, Err, IsOk, IsErr, IsSome, IfOk, is_err, set};
+ghost use Rattle.std.specs.Prelude.{◌≡◌, ◌⊎◌, ◌+◌, ◌<◌, ◌^◌, ◌++◌, ℕ, length, List, [], Bool, true, false, Ok, Some, None, Err, IsOk, IsErr, IsSome, IfOk, IfSome, is_err, set};
 ghost use Rattle.std.specs.FinMap.{get};
 ghost use Rattle.outside.specs.Causes.{HasCause};
 ghost use Rattle.disk_table.specs.UseOrder.{is_known, without, used};
@@ -273,6 +273,31 @@ impl<F: Files> OpenCache<F> {
         }
     }
 
+    // Takes the entry of a key out that has to go, where no rebuild is due. Where that fails the key stays.
+    fn trim_now(&mut self, alloc: Global, key: &Key) -> Result<(), FileFault>
+        requires ready { self.old.due ≡ false }
+        requires known { is_known key.now (entries self.old) ≡ true }
+        ensures ok { IsOk result → entries self.new ≡ without key.now (entries self.old) }
+        ensures edit { IsOk result → ClosesEdit key.now self.old self.new }
+        ensures took { IsOk result → Took key.now (drop_steps key.now) self.old self.new }
+        ensures stays { IsErr result → Stays key.now self.old self.new }
+        ensures due { IsErr result → self.new.due ≡ true }
+        ensures maximum { self.new.maximum ≡ self.old.maximum }
+        ensures cause { HasCause self.old.faults self.new.faults (result ≡ Err FileFault.Failed) }
+    {
+        calls_keep_others();
+        match steps::remove(alloc, &mut self.files, key, &self.table) {
+            Ok(()) => {
+                self.table.forget(key);
+                Ok(())
+            }
+            Err(fault) => {
+                self.due = true;
+                Err(fault)
+            }
+        }
+    }
+
     /// Begins an edit of the key, which has none and for which there is room, and answers its number.
     pub fn begin(&mut self, alloc: Global, key: &Key) -> Result<u64, FileFault>
         requires closed { edit_of key.now (edits self.old) ≡ None }
@@ -295,9 +320,28 @@ impl<F: Files> OpenCache<F> {
         Ok(number)
     }
 
+    /// Takes the entry of a known key out that has to go.
+    pub fn trim(&mut self, alloc: Global, key: &Key) -> Result<(), FileFault>
+        requires known { is_known key.now (entries self.old) ≡ true }
+        ensures ok { IsOk result → entries self.new ≡ without key.now (entries self.old) }
+        ensures makes { IsOk result → Makes key.now (drop_steps key.now) self.old self.new }
+        ensures stays { IsErr result → Stays key.now self.old self.new }
+        ensures due { IsErr result → self.new.due ≡ true }
+        ensures maximum { self.new.maximum ≡ self.old.maximum }
+        ensures cause { HasCause self.old.faults self.new.faults (result ≡ Err FileFault.Failed) }
+    {
+        calls_keep_others();
+        self.rebuild_due(alloc)?;
+        self.trim_now(alloc, key)?;
+        self.settle(alloc);
+        Ok(())
+    }
+
     /// The eldest key that is not under edit, where the cache has more than it may.
     pub fn eldest_over(&self) -> Option<Key>
-        ensures { result ≡ eldest_over self.now.maximum self.now.table.table }
+        ensures key { result ≡ eldest_over self.now.maximum self.now.table.table }
+        ensures known { IfSome result (λ key. is_known key (entries self.now) ≡ true) }
+        ensures closed { IfSome result (λ key. edit_of key (edits self.now) ≡ None) }
     {
         self.table.eldest_over(self.maximum)
     }

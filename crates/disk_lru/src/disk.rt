@@ -1,23 +1,25 @@
 // A disk cache.
-ghost use Rattle.std.specs.Prelude.{◌≡◌, ◌⊎◌, ◌+◌, ◌<◌, ◌^◌, ◌++◌, ℕ, length, List, [], Bool, true, false, Ok, Some, None, Err, IsOk, IsErr, IsSome, IfOk, is_err};
+ghost use Rattle.std.specs.Prelude.{◌≡◌, ◌⊎◌, ◌+◌, ◌<◌, ◌^◌, ◌++◌, ℕ, length, List, [], Bool, true, false, Ok, Some, None, Err, IsOk, IsErr, IsSome, IsErrOf, IfOk, IfSome, ◌↔◌, is_err, is_some, set};
 ghost use Rattle.std.specs.FinMap.{get};
 ghost use Rattle.outside.specs.Causes.{HasCause};
 ghost use Rattle.disk_table.specs.UseOrder.{is_known, without, used};
-ghost use Rattle.disk_table.specs.Table.{edit_of, is_full_for, eldest_over};
+ghost use Rattle.disk_table.specs.Table.{edit_of, free_edit, is_full_for, eldest_over};
 ghost use Rattle.cache_folder.specs.Images.{IfKnown, WasKnown, Runs};
 ghost use Rattle.cache_folder.specs.Offered.{value_name, edit_name, offered};
 ghost use Rattle.cache_folder.specs.Sound.{text_at};
 ghost use Rattle.cache_folder.specs.Tables.{kept, len_at, edit_at, is_offered, begun, committed, aborted, grown_edit};
 ghost use Rattle.disk_lru.specs.State.{CacheState, entries, edits, list_of, IsOpen, IsSettled};
 ghost use Rattle.disk_lru.specs.Calls.{Steps, no_steps, begin_steps, commit_steps, abort_steps, use_steps, drop_steps, CallOn, Makes, Fails, Stays, ClosesEdit, Unchanged};
+ghost use Rattle.disk_lru.specs.Faults.{get_acts, begin_acts, begin_failed, remove_acts, remove_failed, trim_acts};
+ghost use Rattle.disk_lru.specs.Trims.{Trims};
 ghost use Rattle.disk_lru.specs.Past.{PastValue, DiskState, Promise, opening, at_start, steps_at, after_call};
 
 use crate::cache::OpenCache;
 use crate::edit::Edit;
 use crate::past::{ListStep, Past, note, started};
-use crate::refusals::DiskFault;
+use crate::refusals::{BeginRefused, DiskFault, RemoveRefused};
 use journal_lines::Key;
-use outside::Files;
+use outside::{FileFault, Files};
 use std::alloc::Global;
 use std::marker::Model;
 use std::snapshot::Snapshot;
@@ -72,6 +74,72 @@ impl<F: Files> DiskLru<F> {
         ensures { result ≡ is_offered key.now (entries self.now.cache) }
     {
         self.cache.has(key)
+    }
+
+    // Begins an edit of the key, which has none and for which there is room.
+    fn begin_edit(&mut self, alloc: Global, key: &Key) -> Result<Edit, FileFault>
+        requires closed { edit_of key.now (edits self.old.cache) ≡ None }
+        requires room { is_full_for key.now self.old.cache.table.table ≡ false }
+        ensures key { IfOk result (λ edit. edit.key ≡ key.now) }
+        ensures open { IfOk result (λ edit. IsOpen edit self.new.cache) }
+        ensures free { IfOk result (λ edit. free_edit (edits self.old.cache) ≡ Some edit.number) }
+        ensures edits { IfOk result (λ edit.
+            edits self.new.cache ≡ set (edits self.old.cache) edit.number (Some key.now)) }
+        ensures ok { IsOk result → entries self.new.cache ≡ begun key.now (entries self.old.cache) }
+        ensures empty { IsOk result
+            → IfKnown self.new.cache.history (λ k. text_at k.held (edit_name key.now) ≡ []) }
+        ensures makes { IsOk result → Makes key.now (begin_steps key.now) self.old.cache self.new.cache }
+        ensures fails { IsErr result → Fails key.now (begin_steps key.now) self.old.cache self.new.cache }
+        ensures past { self.new.past ≡ after_call (steps_at self.old.cache.history (begin_steps key.now))
+            (is_err result) self.old.past }
+        ensures maximum { self.new.cache.maximum ≡ self.old.cache.maximum }
+        ensures cause { HasCause self.old.cache.faults self.new.cache.faults (result ≡ Err FileFault.Failed) }
+    {
+        let before = Snapshot::of(&self.cache);
+        let result = self.cache.begin(alloc, key);
+        note(
+            &mut self.past,
+            before,
+            ListStep::Begin(*key),
+            result.is_err(),
+        );
+        let number = result?;
+        Ok(Edit::open(key, number))
+    }
+
+    /// Begins an edit of the key, with no bytes: the journal gets a line DIRTY, and then its file is made. Until the edit is
+    /// ended a stop loses what was readable of the key. Busy comes exactly where the key is under edit; TooMany exactly where
+    /// it is not, and 16 edits are open or there are 16,400 keys and this one is new.
+    pub fn begin(&mut self, alloc: Global, key: &Key) -> Result<Edit, BeginRefused>
+        ensures busy { (number : ℕ) → IsErrOf result (BeginRefused.Busy number) ↔
+            (edit_of key.now (edits self.old.cache) ≡ Some number) }
+        ensures too_many { IsErrOf result BeginRefused.TooMany ↔
+            (is_full_for key.now self.old.cache.table.table ≡ true) }
+        ensures idle { begin_acts result ≡ false → self.new ≡ self.old }
+        ensures key { IfOk result (λ edit. edit.key ≡ key.now) }
+        ensures open { IfOk result (λ edit. IsOpen edit self.new.cache) }
+        ensures free { IfOk result (λ edit. free_edit (edits self.old.cache) ≡ Some edit.number) }
+        ensures edits { IfOk result (λ edit.
+            edits self.new.cache ≡ set (edits self.old.cache) edit.number (Some key.now)) }
+        ensures ok { IsOk result → entries self.new.cache ≡ begun key.now (entries self.old.cache) }
+        ensures empty { IsOk result
+            → IfKnown self.new.cache.history (λ k. text_at k.held (edit_name key.now) ≡ []) }
+        ensures makes { IsOk result → Makes key.now (begin_steps key.now) self.old.cache self.new.cache }
+        ensures fails { begin_failed result ≡ true
+            → Fails key.now (begin_steps key.now) self.old.cache self.new.cache }
+        ensures past { begin_acts result ≡ true
+            → self.new.past ≡ after_call (steps_at self.old.cache.history (begin_steps key.now)) (is_err result) self.old.past }
+        ensures maximum { self.new.cache.maximum ≡ self.old.cache.maximum }
+        ensures cause { HasCause self.old.cache.faults self.new.cache.faults (result ≡ Err BeginRefused.Failed) }
+    {
+        if let Some(number) = self.cache.edit_of(key) {
+            return Err(BeginRefused::Busy(number));
+        }
+        if self.cache.is_full_for(key) {
+            return Err(BeginRefused::TooMany);
+        }
+        let edit = self.begin_edit(alloc, key)?;
+        Ok(edit)
     }
 
     /// Ends the edit with the bytes that were written to it: its file takes the name of the entry's, and the journal gets a line
@@ -161,6 +229,98 @@ impl<F: Files> DiskLru<F> {
         );
         result?;
         Ok(())
+    }
+
+    // Takes the entry of a known key out.
+    fn remove_known(&mut self, alloc: Global, key: &Key) -> Result<(), FileFault>
+        requires { is_known key.now (entries self.old.cache) ≡ true }
+        ensures ok { IsOk result → entries self.new.cache ≡ without key.now (entries self.old.cache) }
+        ensures edit { ClosesEdit key.now self.old.cache self.new.cache }
+        ensures makes { IsOk result → Makes key.now (drop_steps key.now) self.old.cache self.new.cache }
+        ensures fails { IsErr result → Fails key.now (drop_steps key.now) self.old.cache self.new.cache }
+        ensures past { self.new.past ≡ after_call (steps_at self.old.cache.history (drop_steps key.now))
+            (is_err result) self.old.past }
+        ensures maximum { self.new.cache.maximum ≡ self.old.cache.maximum }
+        ensures cause { HasCause self.old.cache.faults self.new.cache.faults (result ≡ Err FileFault.Failed) }
+    {
+        let before = Snapshot::of(&self.cache);
+        let result = self.cache.remove(alloc, key);
+        note(
+            &mut self.past,
+            before,
+            ListStep::Drop(*key),
+            result.is_err(),
+        );
+        result
+    }
+
+    /// Takes the entry of the key out: its file goes, and the journal gets a line REMOVE. False comes exactly where the key has
+    /// no entry, and Busy exactly where it is under edit.
+    pub fn remove(&mut self, alloc: Global, key: &Key) -> Result<bool, RemoveRefused>
+        ensures busy { (number : ℕ) → IsErrOf result (RemoveRefused.Busy number) ↔
+            (edit_of key.now (edits self.old.cache) ≡ Some number) }
+        ensures found { IfOk result (λ removed. removed ≡ is_known key.now (entries self.old.cache)) }
+        ensures idle { remove_acts result ≡ false → self.new ≡ self.old }
+        ensures ok { result ≡ Ok true → entries self.new.cache ≡ without key.now (entries self.old.cache) }
+        ensures edits { remove_acts result ≡ true → ClosesEdit key.now self.old.cache self.new.cache }
+        ensures makes { result ≡ Ok true → Makes key.now (drop_steps key.now) self.old.cache self.new.cache }
+        ensures fails { remove_failed result ≡ true
+            → Fails key.now (drop_steps key.now) self.old.cache self.new.cache }
+        ensures past { remove_acts result ≡ true
+            → self.new.past ≡ after_call (steps_at self.old.cache.history (drop_steps key.now)) (is_err result) self.old.past }
+        ensures maximum { self.new.cache.maximum ≡ self.old.cache.maximum }
+        ensures cause { HasCause self.old.cache.faults self.new.cache.faults (result ≡ Err RemoveRefused.Failed) }
+    {
+        if let Some(number) = self.cache.edit_of(key) {
+            return Err(RemoveRefused::Busy(number));
+        }
+        if !self.cache.knows(key) {
+            return Ok(false);
+        }
+        self.remove_known(alloc, key)?;
+        Ok(true)
+    }
+
+    // Takes the entry of a known key out that has to go.
+    fn trim_known(&mut self, alloc: Global, key: &Key) -> Result<(), FileFault>
+        requires { is_known key.now (entries self.old.cache) ≡ true }
+        ensures ok { IsOk result → entries self.new.cache ≡ without key.now (entries self.old.cache) }
+        ensures makes { IsOk result → Makes key.now (drop_steps key.now) self.old.cache self.new.cache }
+        ensures stays { IsErr result → Stays key.now self.old.cache self.new.cache }
+        ensures due { IsErr result → self.new.cache.due ≡ true }
+        ensures past { self.new.past ≡ after_call (steps_at self.old.cache.history (drop_steps key.now))
+            (is_err result) self.old.past }
+        ensures maximum { self.new.cache.maximum ≡ self.old.cache.maximum }
+        ensures cause { HasCause self.old.cache.faults self.new.cache.faults (result ≡ Err FileFault.Failed) }
+    {
+        let before = Snapshot::of(&self.cache);
+        let result = self.cache.trim(alloc, key);
+        note(
+            &mut self.past,
+            before,
+            ListStep::Drop(*key),
+            result.is_err(),
+        );
+        result
+    }
+
+    /// Evicts the eldest entry that is not under edit, where the readable values are together longer than the maximum or there
+    /// are more than 16,384 keys. False comes exactly where neither holds, or all keys are under edit. An eviction that fails
+    /// keeps its key, whose file may be gone.
+    pub fn trim_one(&mut self, alloc: Global) -> Result<bool, DiskFault>
+        ensures over { IfOk result (λ gone. gone ≡ is_some (eldest_over self.old.cache.maximum self.old.cache.table.table)) }
+        ensures err { IsErr result → IsSome (eldest_over self.old.cache.maximum self.old.cache.table.table) }
+        ensures idle { trim_acts result ≡ false → self.new ≡ self.old }
+        ensures key { IfSome (eldest_over self.old.cache.maximum self.old.cache.table.table) (λ key.
+            Trims key result self.old self.new) }
+        ensures maximum { self.new.cache.maximum ≡ self.old.cache.maximum }
+        ensures cause { HasCause self.old.cache.faults self.new.cache.faults (result ≡ Err DiskFault.Failed) }
+    {
+        let Some(key) = self.cache.eldest_over() else {
+            return Ok(false);
+        };
+        self.trim_known(alloc, &key)?;
+        Ok(true)
     }
 
     /// Writes a new journal of the table's entries, the eldest first.

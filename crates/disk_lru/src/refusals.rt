@@ -37,6 +37,20 @@ pub enum BeginRefused {
     Memory,
 }
 
+impl From<FileFault> for BeginRefused {
+    ghost use Rattle.std.specs.Prelude.{◌≡◌};
+    ghost use Rattle.disk_lru.specs.Faults.{begin_fault};
+
+    ghost from_gives = { λ fault made. made ≡ begin_fault fault };
+
+    fn from(fault: FileFault) -> BeginRefused {
+        match fault {
+            FileFault::Failed => BeginRefused::Failed,
+            FileFault::Memory => BeginRefused::Memory,
+        }
+    }
+}
+
 /// Why an entry is not removed.
 #[derive(Clone, Copy, Debug, PartialEq, Eq)]
 pub enum RemoveRefused {
@@ -46,6 +60,20 @@ pub enum RemoveRefused {
     Failed,
     /// Want of memory.
     Memory,
+}
+
+impl From<FileFault> for RemoveRefused {
+    ghost use Rattle.std.specs.Prelude.{◌≡◌};
+    ghost use Rattle.disk_lru.specs.Faults.{remove_fault};
+
+    ghost from_gives = { λ fault made. made ≡ remove_fault fault };
+
+    fn from(fault: FileFault) -> RemoveRefused {
+        match fault {
+            FileFault::Failed => RemoveRefused::Failed,
+            FileFault::Memory => RemoveRefused::Memory,
+        }
+    }
 }
 
 /// A cache that was not started, with its files as the steps up to the fault left them.

@@ -1,0 +1,9 @@
+use Rattle.std.proofs.Common.{sym, ◌∙◌}
+use Rattle.disk_lru.specs.Calls.{drop_steps}
+use Rattle.disk_lru.proofs.Results.{ok_of}
+use Rattle.disk_lru.proofs.Promises.{promise_after}
+use Rattle.disk_lru.proofs.disk.DiskLru.trim_known.Goals as goal
+
+pub invariant_of-self : goal.invariant_of-self
+invariant_of-self g c = promise_after (record { cache = c.self.inside.cache; past = c.self.inside.past.value }) c.of-before.result.value c.trim-result.new.self c.note.new.past.value (λ s. drop_steps c.args.key.now) c.is_err.result c.args.key.now c.self.invariant c.of-before.ensures c.note.ensures
+    (λ no'. c.trim-result.ensures.makes (ok_of c.trim-result.result (sym c.is_err.ensures.value ∙ no'))) (λ yes'. (c.trim-result.ensures.stays (sym c.is_err.ensures.value ∙ yes')).passage)
