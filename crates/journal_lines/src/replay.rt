@@ -1,7 +1,7 @@
 // A journal that is read piece by piece.
 ghost use Rattle.std.specs.Prelude.{◌≡◌, ◌+◌, ◌-◌, ◌≤◌, ◌<◌, ◌^◌, ◌==◌, ◌++◌, ◌∷◌, [], ℕ, List, length, drop, position, min, take, true, false, Some, None, IfOk, IfSome, IfNone, IsSome};
 ghost use Rattle.std.specs.Str.{bytes_eq};
-ghost use Rattle.journal_lines.specs.Lines.{line_of};
+ghost use Rattle.journal_lines.specs.Lines.{line_of, IsLine};
 ghost use Rattle.journal_lines.specs.Journal.{Lacks, header, journal_of};
 ghost use Rattle.journal_lines.specs.Replay.{Tells, at_start, ended_with, journal_from};
 
@@ -42,6 +42,7 @@ fn newline(text: &[u8]) -> Option<usize>
 // The line that begins with what was read before, and ends with these bytes. Nothing is kept of it.
 fn line_with(begun: &mut LineText, front: &[u8]) -> Option<Line>
     ensures line { result ≡ line_of (begun.old ++ front.now) }
+    ensures is_line { IfSome result IsLine }
     ensures clear { begun.new ≡ [] }
 {
     if begun.bytes().is_empty() {
@@ -94,6 +95,8 @@ impl Replay {
         ensures within { at.new ≤ length piece.now }
         ensures read { self.new.read + at.old ≡ self.old.read + at.new }
         ensures tells { Tells self.old (drop at.old piece.now) self.new (drop at.new piece.now) result }
+        ensures moves { IfOk result (λ line. IsSome line → at.old < at.new) }
+        ensures is_line { IfOk result (λ line. IfSome line IsLine) }
     {
         if let Some(fault) = self.fault {
             return Err(fault);
@@ -159,6 +162,8 @@ impl Replay {
         ensures within { at.new ≤ length piece.now }
         ensures read { self.new.read + at.old ≡ self.old.read + at.new }
         ensures tells { Tells self.old (drop at.old piece.now) self.new (drop at.new piece.now) result }
+        ensures moves { IfOk result (λ line. IsSome line → at.old < at.new) }
+        ensures is_line { IfOk result (λ line. IfSome line IsLine) }
     {
         let (_, left) = piece.split_at(*at);
         match newline(left) {
@@ -197,6 +202,7 @@ impl Replay {
         requires size { self.old.read + length front.now + 1 < 2 ^ 64 }
         ensures read { self.new.read ≡ self.old.read + length front.now + 1 }
         ensures some { IfOk result IsSome }
+        ensures is_line { IfOk result (λ line. IfSome line IsLine) }
         ensures tells { Tells self.old (front.now ++ 10 ∷ []) self.new [] result }
     {
         let line = line_with(&mut self.begun, front);
