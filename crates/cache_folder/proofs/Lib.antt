@@ -14,4 +14,8 @@ pub mod NewJournal
 pub mod NewText
 pub mod OnTheWay
 pub mod Openings
+pub mod Pieces
 pub mod Runs
+pub mod Settling
+pub mod Staying
+pub mod Sweeping

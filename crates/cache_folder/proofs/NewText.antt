@@ -15,7 +15,7 @@ abbrev pub keyed : Table → List (List ℕ) → List Line
 keyed t [] = []
 keyed t (key ∷ keys) = line_for key (hidden (len_at key t) (edit_at key t)) ∷ keyed t keys
 
-abbrev IsFound : {V : Type 0} → Entries V → List ℕ × V → Type 0
+abbrev pub IsFound : {V : Type 0} → Entries V → List ℕ × V → Type 0
 IsFound t e = value_at e.0 t ≡ Some e.1
 
 found_in_more : {V : Type 0} (e : List ℕ × V) (t es : Entries V) → AllByRecursion (λ x. x.0 ≢ e.0) es → AllByRecursion (IsFound t) es → AllByRecursion (IsFound (e ∷ t)) es
@@ -25,7 +25,7 @@ found_in_more e t (x ∷ es) apart found = (other (bytes_eq x.0 e.0) refl, found
   other true yes' = absurd (apart.0 ((bytes_eq-Decides x.0 e.0).0 yes'))
   other false no' = found.0
 
-all_found : {V : Type 0} (t : Entries V) → IsOnce t → AllByRecursion (IsFound t) t
+pub all_found : {V : Type 0} (t : Entries V) → IsOnce t → AllByRecursion (IsFound t) t
 all_found [] once = tt
 all_found (e ∷ t) once = (ap (λ b. cond b (Some e.1) (value_at e.0 t)) ((bytes_eq-Decides e.0 e.0).1 refl), found_in_more e t t once.0 (all_found t once.1))
 

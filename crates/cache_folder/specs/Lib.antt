@@ -4,5 +4,7 @@ pub mod Journals
 pub mod Laws
 pub mod Offered
 pub mod Sound
+pub mod Starts
 pub mod Steps
 pub mod Tables
+pub mod inside

@@ -2,7 +2,10 @@
 //! files, each call of which may fail.
 #![tactic(auto)]
 
+mod changes;
+mod journal_reader;
 mod laws;
+mod leftovers;
 mod names;
 pub mod rebuild;
 pub mod steps;

@@ -1,14 +1,15 @@
 // The table of a disk cache with its open edits.
-ghost use Rattle.std.specs.Prelude.{◌≡◌, ◌≢◌, ◌≤◌, ◌<◌, ◌+◌, ◌^◌, ◌++◌, ◌↔◌, ℕ, List, [], length, true, false, Some, None, IsSome, IfSome, IfOk, OnOk, OnErr, IsErrOf, MatchOption, set};
+ghost use Rattle.std.specs.Prelude.{◌≡◌, ◌≢◌, ◌≤◌, ◌<◌, ◌+◌, ◌^◌, ◌++◌, ◌↔◌, ℕ, List, [], length, true, false, Some, None, IsSome, IfSome, IfOk, OnOk, OnErr, IsErrOf, MatchOption, set, if◌then◌else◌};
 ghost use lib.ListN.{replicate};
 ghost use Rattle.journal_lines.specs.Keys.{is_key};
 ghost use Rattle.journal_lines.specs.Lines.{spelled, HasShortLengths};
 ghost use Rattle.journal_lines.specs.Journal.{header, ended, text_of};
-ghost use Rattle.disk_table.specs.UseOrder.{IsShort, is_known, without, used};
-ghost use Rattle.disk_table.specs.Table.{no_entries, edit_of, free_edit, is_full_for, is_under_edit, eldest_over, is_due};
+ghost use Rattle.disk_table.specs.UseOrder.{IsOnce, IsShort, is_known, without, used};
+ghost use Rattle.disk_table.specs.Table.{no_entries, edit_of, free_edit, is_full_for, is_under_edit, eldest_over, is_due, has_room_for, after_line, clean_length, keys_in};
+ghost use Rattle.cache_folder.specs.Starts.{HasNoEdits};
 ghost use Rattle.cache_folder.specs.Tables.{CountsLine, kept, len_at, edit_at, is_offered, begun, committed, aborted, grown_edit, hidden, line_for, lines_for};
 
-use disk_table::{DiskTable, EditRefused};
+use disk_table::{DiskTable, EditRefused, Keys};
 use faults::NoMemory;
 use journal_lines::{Key, Line, write_line};
 use std::alloc::{AllocError, Global};
@@ -246,5 +247,45 @@ impl CacheTable {
             self.add_line_for(&mut text, &key)?;
         }
         Ok(text)
+    }
+}
+
+// What a start makes of a table, while no key is under edit.
+impl CacheTable {
+    /// Does what a line of the journal says. False comes exactly where its key would be the 16,401st.
+    pub fn apply(&mut self, line: &Line) -> Result<bool, NoMemory>
+        requires short { HasShortLengths line.now }
+        requires free { HasNoEdits self.old }
+        ensures applied { IfOk result (λ applied. applied ≡ has_room_for line.now self.old.table) }
+        ensures table { IfOk result (λ applied.
+            self.new.table ≡ (if applied then after_line line.now self.old.table else self.old.table)) }
+        ensures free { HasNoEdits self.new }
+    {
+        self.table.apply(line)
+    }
+
+    /// The length of the value that the journal says of the key, in bytes.
+    pub fn length_of(&self, key: &Key) -> Option<u64>
+        ensures { result ≡ clean_length key.now self.now.table.entries }
+    {
+        self.table.clean(key)
+    }
+
+    /// The keys, the eldest first.
+    pub fn keys(&self) -> Keys<'_>
+        ensures keys { result ≡ keys_in self.now.table.entries }
+        ensures once { IsOnce self.now.table.entries }
+        ensures few { length self.now.table.entries ≤ 16400 }
+    {
+        self.table.keys()
+    }
+
+    /// Takes a key out.
+    pub fn discard(&mut self, key: &Key)
+        requires free { HasNoEdits self.old }
+        ensures entries { self.new.table.entries ≡ without key.now self.old.table.entries }
+        ensures free { HasNoEdits self.new }
+    {
+        self.table.forget(key);
     }
 }
