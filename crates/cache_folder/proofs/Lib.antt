@@ -8,11 +8,13 @@ pub mod Folders
 pub mod Journaled
 pub mod Kept
 pub mod Lists
+pub mod Loading
 pub mod Lost
 pub mod Mapped
 pub mod NewJournal
 pub mod NewText
 pub mod OnTheWay
+pub mod Opening
 pub mod Openings
 pub mod Pieces
 pub mod Runs

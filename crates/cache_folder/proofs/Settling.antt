@@ -6,9 +6,10 @@ use Rattle.std.specs.List.{AllByRecursion}
 use Rattle.std.specs.FinMap.{get, insert, remove}
 use Rattle.outside.specs.Files.{Folder, FolderHistory, last_of, passed_through, moved, renamed, deleted}
 use Rattle.cache_folder.specs.Offered.{journal_name, journal_tmp, journal_bkp, value_name}
+use Rattle.cache_folder.specs.Journals.{HasOneJournal}
 use Rattle.cache_folder.specs.Images.{Runs}
 use Rattle.cache_folder.specs.Starts.{OffersSame}
-use Rattle.cache_folder.proofs.Apart.{journal-bkp, tmp-bkp, flip}
+use Rattle.cache_folder.proofs.Apart.{journal-tmp, journal-bkp, tmp-bkp, flip}
 use Rattle.cache_folder.proofs.Folders.{get_other, gone_same, gone_other}
 use Rattle.cache_folder.proofs.Lists.{weaken}
 use Rattle.cache_folder.proofs.Openings.{no_new_journal}
@@ -51,3 +52,13 @@ tmp_gone f g same = weaken (OffersSame g) (OffersSame f) (λ c s. s ∙ same) (d
 
 pub still_alone : (g : Folder) → get g journal_bkp ≡ None → get (last_of g (deleted journal_tmp g)) journal_bkp ≡ None
 still_alone g none = others_after g journal_tmp journal_bkp (flip _ _ tmp-bkp) ∙ none
+
+-- `journal.tmp` is gone where it took the journal's name, and then `journal.bkp`
+pub new_gone : (f : Folder) → get (last_of f (renamed journal_tmp journal_name f)) journal_tmp ≡ None
+new_gone f = by (get f journal_tmp) refl where
+  by : (o : Option (List ℕ)) → get f journal_tmp ≡ o → get (last_of f (moved o journal_tmp journal_name f)) journal_tmp ≡ None
+  by None e = e
+  by (Some text) e = get_other (remove f journal_tmp) journal_name text journal_tmp (flip _ _ journal-tmp) ∙ gone_same f journal_tmp
+
+pub one_journal : (g : Folder) → get g journal_tmp ≡ None → HasOneJournal (last_of g (deleted journal_bkp g))
+one_journal g none = record { no_new = others_after g journal_bkp journal_tmp tmp-bkp ∙ none; no_old = gone_after g journal_bkp }

@@ -47,8 +47,8 @@ clean_known key es clean known = by (value_at key es) refl known where
 pub its_file : (name key : List ℕ) (es : Replayed) (b : Bool) → name ≡ value_name key → b ≡ is_some (clean_length key es) → b ≡ true → IsEntryFile name es
 its_file name key es b is found yes' = record { key = key; name_is = is; known = known_clean key es (sym found ∙ yes') }
 
-pub no_file : (name key : List ℕ) (es : Replayed) (b : Bool) → AreClean es → name ≡ value_name key → b ≡ is_some (clean_length key es) → b ≡ false → IsNoEntryFile name es
-no_file name key es b clean is found no' other good known same =
+pub no_file : (name key : List ℕ) (es : Replayed) (b : Bool) → name ≡ value_name key → b ≡ is_some (clean_length key es) → b ≡ false → AreClean es → IsNoEntryFile name es
+no_file name key es b is found no' clean other good known same =
     let one = same_key key other (sym is ∙ same) in
     let yes' : is_some (clean_length key es) ≡ true = clean_known key es clean (subst (λ k. is_known k es ≡ true) (sym one) known) in
     let both : true ≡ false = sym yes' ∙ sym found ∙ no' in

@@ -9,7 +9,7 @@ use Rattle.journal_lines.specs.Journal.{Lines, header, text_of, journal_of}
 use Rattle.journal_lines.specs.declared.lines.Line.{Line}
 use Rattle.journal_lines.specs.declared.lines.JournalFault.{JournalFault}
 use Rattle.disk_table.specs.Table.{fold}
-use Rattle.cache_folder.specs.Offered.{Replayed, journal_name}
+use Rattle.cache_folder.specs.Offered.{Replayed, journal_name, journal_tmp, journal_bkp}
 
 -- the folder has a journal of whole lines, and they leave these entries
 pub record Says (folder : Folder) (entries : Replayed) : Type 0 where
@@ -32,3 +32,8 @@ count_in (Some text) = count_of (journal_of text)
 -- how many lines the folder's journal has after its header
 abbrev pub line_count : Folder → ℕ
 line_count folder = count_in (get folder journal_name)
+
+-- no journal stands beside `journal`
+pub record HasOneJournal (folder : Folder) : Type 0 where
+  pub no_new : get folder journal_tmp ≡ None
+  pub no_old : get folder journal_bkp ≡ None

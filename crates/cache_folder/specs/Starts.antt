@@ -1,13 +1,11 @@
 -- The start of a disk cache: what it makes of the folder that it finds. That keys which were left dirty are dropped with their
 -- files, and that a bad journal empties the folder, is DiskLruCache's. This project's own: an entry whose file is missing or has
 -- another length is dropped, files of no entry are deleted, and the eldest entries go at once where they are too many.
-use Rattle.std.specs.Prelude.{◌≡◌, ◌≢◌, ◌⊎◌, ℕ, ◌<◌, ◌^◌, Bool, true, false, ◌==◌, ◌||◌, nat_lt, List, [], ◌∷◌, ◌++◌, length, take, drop, sum_by, Some, None, Ok, Err, Result, ⊤, IsSome, unwrap_or, if◌then◌else◌}
+use Rattle.std.specs.Prelude.{◌≡◌, ◌⊎◌, ℕ, ◌-◌, ◌^◌, min, Bool, true, false, ◌==◌, ◌||◌, nat_lt, List, [], ◌∷◌, length, sum_by, Some, None, Ok, Err, Result, IsSome, unwrap_or, if◌then◌else◌}
 use Rattle.std.specs.declared.option.Option.{Option}
-use Rattle.std.specs.List.{AllByRecursion}
 use Rattle.std.specs.FinMap.{get}
 use lib.ListN.{replicate}
 use Rattle.outside.specs.Files.{Folder}
-use Rattle.journal_lines.specs.Keys.{is_key}
 use Rattle.journal_lines.specs.Journal.{Lines, journal_of}
 use Rattle.journal_lines.specs.Replay.{ReplayState, journal_from}
 use Rattle.journal_lines.specs.declared.lines.Line.{Line}
@@ -15,9 +13,11 @@ use Rattle.journal_lines.specs.declared.lines.Rest.{Rest}
 use Rattle.journal_lines.specs.declared.lines.JournalFault.{JournalFault}
 use Rattle.disk_table.specs.UseOrder.{Entries, without, is_known}
 use Rattle.disk_table.specs.Table.{TableValue, no_entries, has_room_for, after_line}
-use Rattle.cache_folder.specs.Offered.{Replayed, journal_name, journal_bkp, value_name, journal_text, replay_of, offered}
+use Rattle.cache_folder.specs.Offered.{Replayed, journal_name, value_name, journal_text, replay_of, offered}
+use Rattle.cache_folder.specs.Journals.{line_count}
 use Rattle.cache_folder.specs.Steps.{Cached, CacheStep, Drop}
-use Rattle.cache_folder.specs.Tables.{CacheTableValue}
+use Rattle.cache_folder.specs.Tables.{CacheTableValue, kept}
+use Rattle.cache_folder.specs.Sound.{IsSound, listed}
 
 -- ---- the table that a journal leaves
 
@@ -116,3 +116,26 @@ are_over maximum ps = nat_lt maximum (sum_by (λ p. length p.1) ps) || nat_lt 16
 abbrev pub evictions : ℕ → List (List ℕ × List ℕ) → List (CacheStep (List ℕ))
 evictions maximum [] = []
 evictions maximum (p ∷ ps) = if are_over maximum (p ∷ ps) then Drop p.0 ∷ evictions maximum ps else []
+
+-- what is left then
+abbrev pub staying : ℕ → List (List ℕ × List ℕ) → List (List ℕ × List ℕ)
+staying maximum [] = []
+staying maximum (p ∷ ps) = if are_over maximum (p ∷ ps) then staying maximum ps else p ∷ ps
+
+-- each key with the length of its bytes
+abbrev pub lengths_in : List (List ℕ × List ℕ) → Replayed
+lengths_in [] = []
+lengths_in (p ∷ ps) = (p.0, Some (length p.1)) ∷ lengths_in ps
+
+-- a count that is kept in 64 bits
+abbrev pub kept_count : ℕ → ℕ
+kept_count n = min n (2 ^ 64 - 1)
+
+-- A folder and the table of a cache on it where no key is under edit: the table has what the folder offers, the journal says the
+-- table, no other file is there, and the lines of the journal are counted.
+pub record IsOpen (folder : Folder) (t : CacheTableValue) : Type 0 where
+  pub entries : t.table.entries ≡ lengths_in (offered folder)
+  pub sound : IsSound folder (kept t)
+  pub list : listed folder (kept t) ≡ list_offered folder
+  pub tidy : IsTidy folder t.table.entries
+  pub lines : t.table.lines ≡ kept_count (line_count folder)

@@ -160,9 +160,9 @@ fn key_of_file(name: &Name) -> Option<Key>
 
 // Whether the file is that of an entry.
 fn is_entry_file(name: &Name, table: &CacheTable) -> bool
-    requires { AreClean table.now.table.entries }
     ensures yes { result ≡ true → IsEntryFile name.now table.now.table.entries }
-    ensures no { result ≡ false → IsNoEntryFile name.now table.now.table.entries }
+    ensures no { result ≡ false → AreClean table.now.table.entries
+        → IsNoEntryFile name.now table.now.table.entries }
 {
     match key_of_file(name) {
         None => false,
@@ -172,9 +172,9 @@ fn is_entry_file(name: &Name, table: &CacheTable) -> bool
 
 // Whether the file is the journal or that of an entry.
 fn stays(name: &Name, table: &CacheTable) -> bool
-    requires { AreClean table.now.table.entries }
     ensures yes { result ≡ true → Belongs name.now table.now.table.entries }
-    ensures no { result ≡ false → IsForeign name.now table.now.table.entries }
+    ensures no { result ≡ false → AreClean table.now.table.entries
+        → IsForeign name.now table.now.table.entries }
 {
     if name.bytes() == b"journal".as_slice() {
         return true;
@@ -189,7 +189,7 @@ fn sweep_file<F: Files>(
     name: &Name,
     table: &CacheTable,
 ) -> Result<(), FileFault>
-    requires clean { AreClean table.now.table.entries }
+    requires clean { IfKnown (F.history files.old) (λ h. AreClean table.now.table.entries) }
     requires alone { IfKnown (F.history files.old) (λ h. get h.held journal_bkp ≡ None) }
     requires offers { IfKnown (F.history files.old) (λ h. AreKnown (offered h.held) table.now.table.entries) }
     ensures moments { IfKnown (F.history files.old)
@@ -207,7 +207,7 @@ fn sweep_file<F: Files>(
 
 /// Takes each file away that is not the journal and not that of an entry.
 pub fn sweep<F: Files>(alloc: Global, files: &mut F, table: &CacheTable) -> Result<(), FileFault>
-    requires clean { AreClean table.now.table.entries }
+    requires clean { IfKnown (F.history files.old) (λ h. AreClean table.now.table.entries) }
     requires alone { IfKnown (F.history files.old) (λ h. get h.held journal_bkp ≡ None) }
     requires offers { IfKnown (F.history files.old) (λ h. AreKnown (offered h.held) table.now.table.entries) }
     ensures moments { IfKnown (F.history files.old)

@@ -8,6 +8,7 @@ mod laws;
 mod leftovers;
 mod names;
 pub mod rebuild;
+pub mod start;
 pub mod steps;
 mod table;
 #[cfg(test)]

@@ -5,7 +5,7 @@ ghost use Rattle.outside.specs.Causes.{HasCause};
 ghost use Rattle.outside.specs.Files.{FolderHistory};
 ghost use Rattle.journal_lines.specs.Journal.{header, text_of};
 ghost use Rattle.cache_folder.specs.Offered.{journal_tmp};
-ghost use Rattle.cache_folder.specs.Journals.{line_count};
+ghost use Rattle.cache_folder.specs.Journals.{HasOneJournal, line_count};
 ghost use Rattle.cache_folder.specs.Images.{IfKnown, WasKnown, Runs};
 ghost use Rattle.cache_folder.specs.Tables.{kept, lines_for};
 ghost use Rattle.cache_folder.specs.Sound.{IsKept, RebuildWay, Done, listed};
@@ -45,6 +45,7 @@ fn swap<F: Files>(
     ensures ok { IsOk result → IfKnown (F.history _before.now.value) (λ h. IfKnown (F.history files.old) (λ k. Done (F.history files.new) (kept table.now) (listed h.held (kept table.now)))) }
     ensures lines { IsOk result → IfKnown (F.history _before.now.value) (λ h. IfKnown (F.history files.old) (λ k.
         IfKnown (F.history files.new) (λ m. line_count m.held ≡ length (kept table.now)))) }
+    ensures alone { IsOk result → IfKnown (F.history files.new) (λ k. HasOneJournal k.held) }
     ensures known { WasKnown (F.history files.old) (F.history files.new) }
     ensures cause { HasCause (F.faults files.old) (F.faults files.new) (result ≡ Err FileFault.Failed) }
 {
@@ -65,6 +66,7 @@ pub fn rebuild<F: Files>(alloc: Global, files: &mut F, table: &CacheTable) -> Re
     ensures ways { IfKnown (F.history files.old) (λ h. Runs (RebuildWay h.held (kept table.now)) h (F.history files.new)) }
     ensures ok { IsOk result → IfKnown (F.history files.old) (λ h. Done (F.history files.new) (kept table.now) (listed h.held (kept table.now))) }
     ensures lines { IsOk result → IfKnown (F.history files.new) (λ k. line_count k.held ≡ length (kept table.now)) }
+    ensures alone { IsOk result → IfKnown (F.history files.new) (λ k. HasOneJournal k.held) }
     ensures known { WasKnown (F.history files.old) (F.history files.new) }
     ensures cause { HasCause (F.faults files.old) (F.faults files.new) (result ≡ Err FileFault.Failed) }
 {

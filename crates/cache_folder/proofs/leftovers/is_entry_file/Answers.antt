@@ -6,4 +6,4 @@ pub returns-in-Some-clause-yes : goal.returns-in-Some-clause-yes
 returns-in-Some-clause-yes c = its_file c.args.name.now c.in-Some.key c.args.table.now.table.entries c.is_some.result c.in-Some.ensures.some (c.is_some.ensures ∙ ap is_some c.length_of.ensures)
 
 pub returns-in-Some-clause-no : goal.returns-in-Some-clause-no
-returns-in-Some-clause-no c = no_file c.args.name.now c.in-Some.key c.args.table.now.table.entries c.is_some.result c.requires c.in-Some.ensures.some (c.is_some.ensures ∙ ap is_some c.length_of.ensures)
+returns-in-Some-clause-no c = no_file c.args.name.now c.in-Some.key c.args.table.now.table.entries c.is_some.result c.in-Some.ensures.some (c.is_some.ensures ∙ ap is_some c.length_of.ensures)

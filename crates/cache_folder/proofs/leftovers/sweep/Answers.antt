@@ -22,7 +22,7 @@ loop-name-init g c = record {
 
 pub sweep_file-requires : goal.sweep_file-requires
 sweep_file-requires g c = record {
-  clean = c.requires.clean;
+  clean = λ k e. let h = c.loop-name.invariant.known k e in c.requires.clean h.0 h.1;
   alone = λ k e. let h = c.loop-name.invariant.known k e in (run_has _ h.0 k _ (c.loop-name.invariant.moments h.0 h.1) e).alone;
   offers = λ k e.
       let h = c.loop-name.invariant.known k e in

@@ -13,7 +13,7 @@ pub returns-clause-moments : goal.returns-clause-moments
 returns-clause-moments g c = λ h e.
     let es = c.args.table.now.table.entries in
     one (Sweeps es h.held) _ h _ _ _ e c.delete.ensures.files (sweeps_none es h.held (c.requires.alone h e))
-    (sweeps_deleted es h.held c.args.name.now (c.requires.alone h e) (c.requires.offers h e) (c.stays.ensures.no c.if-stays.false))
+    (sweeps_deleted es h.held c.args.name.now (c.requires.alone h e) (c.requires.offers h e) (c.stays.ensures.no c.if-stays.false (c.requires.clean h e)))
 
 pub returns-clause-gone : goal.returns-clause-gone
 returns-clause-gone g c = λ ok k e there.

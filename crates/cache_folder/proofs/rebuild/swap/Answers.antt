@@ -1,12 +1,14 @@
-use Rattle.std.proofs.Common.{ℕ, List, refl, sym, ap, ◌∙◌, subst, is_ok}
+use Rattle.std.specs.FinMap.{get}
+use Rattle.std.proofs.Common.{◌≡◌, None, ℕ, List, refl, sym, ap, ◌∙◌, subst, is_ok}
 use Rattle.outside.specs.Files.{Folder, FolderHistory, Changes, renamed, deleted}
-use Rattle.cache_folder.specs.Offered.{journal_bkp}
+use Rattle.cache_folder.specs.Offered.{journal_tmp, journal_bkp}
 use Rattle.cache_folder.specs.Tables.{kept}
-use Rattle.cache_folder.proofs.Runs.{one, two, three, three_ok, known_back, same_some}
+use Rattle.cache_folder.proofs.Runs.{one, two, three, three_ok, known_back, same_some, at_middle}
 use Rattle.cache_folder.proofs.Calls.{deleted_images}
 use Rattle.cache_folder.proofs.NewJournal.{filled_way, back_images, back_way, place_images, place_way, good_lines, end_way, end_text, end_sound, end_list}
-use Rattle.cache_folder.specs.Journals.{line_count}
+use Rattle.cache_folder.specs.Journals.{HasOneJournal, line_count}
 use Rattle.cache_folder.proofs.Counting.{count_new}
+use Rattle.cache_folder.proofs.Settling.{new_gone, one_journal}
 use Rattle.cache_folder.proofs.rebuild.swap.Goals as goal
 
 pub returns-in_err-rename-clause-ways : goal.returns-in_err-rename-clause-ways
@@ -54,3 +56,9 @@ returns-clause-known g c = λ k e.
 pub returns-clause-lines : goal.returns-clause-lines
 returns-clause-lines g c = λ ok h e k e2 m e'. ap (λ (x : FolderHistory). line_count x.held) (same_some _ _ (sym e' ∙ three_ok _ _ _ k _ _ _ _ _ _ _ e2 (subst (λ (p : Folder → List Folder). Changes p (g.F.Files.history c.args.files.now) (g.F.Files.history c.rename.new.self) c.rename.result) (λ i. renamed (c.journal-journal.ensures i) (c.journal_bkp-bkp.ensures i)) c.rename.ensures.files) (ap is_ok c.in_ok-rename.was) (subst (λ (p : Folder → List Folder). Changes p (g.F.Files.history c.rename.new.self) (g.F.Files.history c.rename-2.new.self) c.rename-2.result) (λ i. renamed (c.journal_tmp-tmp.ensures i) (c.journal-journal.ensures i)) c.rename-2.ensures.files) (ap is_ok c.in_ok-rename-2.was) (subst (λ (n : List ℕ). Changes (deleted n) (g.F.Files.history c.rename-2.new.self) (g.F.Files.history c.delete.new.self) c.delete.result) c.journal_bkp-bkp.ensures c.delete.ensures.files) (ap is_ok c.in_ok-delete.was)))
     ∙ count_new (record { text = c.text_is_its_lines.ensures.text; unbroken = c.text_is_its_lines.ensures.unbroken }) _ (kept c.args.table.now) (good_lines (record { text = c.text_is_its_lines.ensures.text; unbroken = c.text_is_its_lines.ensures.unbroken }) h.held (kept c.args.table.now) (c.requires.kept h e).files) (end_text (record { text = c.text_is_its_lines.ensures.text; unbroken = c.text_is_its_lines.ensures.unbroken }) h.held (kept c.args.table.now) (c.requires.kept h e) k.held (c.requires.new k e2 h e) _ refl _ refl)
+
+pub returns-clause-alone : goal.returns-clause-alone
+returns-clause-alone g c = λ ok.
+    at_middle HasOneJournal _ _ _ _ (subst (λ (n : List ℕ). Changes (deleted n) (g.F.Files.history c.rename-2.new.self) (g.F.Files.history c.delete.new.self) c.delete.result) c.journal_bkp-bkp.ensures c.delete.ensures.files) (ap is_ok c.in_ok-delete.was)
+    (λ h e. one_journal h.held (at_middle (λ f. get f journal_tmp ≡ None) _ _ _ _ (subst (λ (p : Folder → List Folder). Changes p (g.F.Files.history c.rename.new.self) (g.F.Files.history c.rename-2.new.self) c.rename-2.result) (λ i. renamed (c.journal_tmp-tmp.ensures i) (c.journal-journal.ensures i)) c.rename-2.ensures.files) (ap is_ok c.in_ok-rename-2.was)
+    (λ h' e'. new_gone h'.held) h e))
