@@ -1,15 +1,15 @@
 -- What a start keeps of the entries that a journal leaves.
-use Rattle.std.proofs.Common.{◌≡◌, ◌≢◌, ℕ, ◌+◌, ◌<◌, ◌≤◌, ◌^◌, Bool, true, false, cond, List, [], ◌∷◌, ◌++◌, length, Some, None, refl, sym, ap, subst, ◌∙◌, arith, is_some, IsSome, ◌==◌, ◌&&◌, not, unwrap_or, min, inl, inr}
+use Rattle.std.proofs.Common.{◌≡◌, ◌≢◌, ℕ, ◌+◌, ◌<◌, ◌≤◌, ◌^◌, Bool, true, false, cond, List, [], ◌∷◌, ◌++◌, length, Some, None, refl, sym, ap, subst, ◌∙◌, arith, is_some, IsSome, ◌==◌, ◌&&◌, not, nat_le, ◌-◌, unwrap_or, min, inl, inr}
 use Rattle.std.specs.declared.option.Option.{Option}
 use Rattle.std.specs.List.{AllByRecursion}
 use Rattle.std.specs.Str.{bytes_eq}
 use Rattle.std.specs.FinMap.{get}
-use Rattle.std.proofs.lemmas.Bool.{eqb-true}
+use Rattle.std.proofs.lemmas.Bool.{eqb-true, lt-leb}
 use Rattle.std.proofs.lemmas.Slice.Eq.{bytes_eq-Decides}
 use Rattle.outside.specs.Files.{Folder}
 use Rattle.journal_lines.specs.Keys.{is_key}
 use Rattle.disk_table.specs.UseOrder.{Entries, IsOnce, IsShort, value_at, is_known}
-use Rattle.disk_table.specs.Table.{TableValue}
+use Rattle.disk_table.specs.Table.{TableValue, is_due}
 use Rattle.cache_folder.specs.Offered.{Replayed, journal_name, journal_tmp, journal_bkp, value_name, first_text, journal_text, replay_of, clean_pair, pair_of, readable, offered_by, offered}
 use Rattle.cache_folder.specs.Journals.{Says, count_in, line_count}
 use lib.ListN.{replicate}
@@ -276,3 +276,19 @@ open_after f g t u r same tmp bkp offers' sound list lines few keeps table =
       tidy = subst (IsTidy g) (sym entries) (tidy_after f g t.table.entries r.tidy same tmp bkp);
       lines = ap (λ (w : TableValue). w.lines) table ∙ capped (length t.table.entries) few ∙ ap kept_count (sym (length_mapped (kept_by t.table.edits t.written) t.table.entries) ∙ sym lines);
     }
+
+-- ---- a journal of too many lines
+
+pub ready_open : (f : Folder) (t : CacheTableValue) → IsOpen f t → IsReady f t
+ready_open f t o = record {
+  entries = o.entries;
+  keeps = record { files = o.sound.files; count = o.sound.count; once = o.sound.once };
+  list = o.list;
+  tidy = o.tidy;
+}
+
+nothing_saved : (n m : ℕ) → m ≡ n → nat_le 2000 (m - n) ≡ false
+nothing_saved n m e = lt-leb 2000 (m - n) (omega (arith, e))
+
+pub not_due : (t u : TableValue) → u.entries ≡ t.entries → u.lines ≡ length t.entries → is_due u ≡ false
+not_due t u entries lines = ap (λ b. b && nat_le (length u.entries) (u.lines - length u.entries)) (nothing_saved (length u.entries) u.lines (lines ∙ ap length (sym entries)))

@@ -13,7 +13,7 @@ use Rattle.cache_folder.proofs.Apart.{journal-tmp, journal-bkp, tmp-bkp, flip}
 use Rattle.cache_folder.proofs.Folders.{get_other, gone_same, gone_other}
 use Rattle.cache_folder.proofs.Lists.{weaken}
 use Rattle.cache_folder.proofs.Openings.{no_new_journal}
-use Rattle.cache_folder.proofs.Runs.{run_more}
+use Rattle.cache_folder.proofs.Runs.{run_more, run_weaken}
 
 -- a run, and one behind it
 pub run_on : (P : Folder → Type 0) (h : FolderHistory) (mid after : Option FolderHistory) (x : Runs P h mid) → Runs P (passed_through x.contents h) after → Runs P h after
@@ -62,3 +62,9 @@ new_gone f = by (get f journal_tmp) refl where
 
 pub one_journal : (g : Folder) → get g journal_tmp ≡ None → HasOneJournal (last_of g (deleted journal_bkp g))
 one_journal g none = record { no_new = others_after g journal_bkp journal_tmp tmp-bkp ∙ none; no_old = gone_after g journal_bkp }
+
+-- two runs that offer the same
+pub same_on : (h : FolderHistory) (mid after : Option FolderHistory) → Runs (OffersSame h.held) h mid → ((m : FolderHistory) → mid ≡ Some m → Runs (OffersSame m.held) m after) → Runs (OffersSame h.held) h after
+same_on h mid after x y =
+    let m : FolderHistory = passed_through x.contents h in
+    run_on (OffersSame h.held) h mid after x (run_weaken (OffersSame m.held) (OffersSame h.held) m after (λ d s. s ∙ x.here) (y m x.after_is))

@@ -2,7 +2,7 @@
 ghost use Rattle.std.specs.Prelude.{◌≡◌, ◌≢◌, ◌&&◌, not, [], length, false, Some, None, Err, IfOk, IsOk};
 ghost use Rattle.std.specs.FinMap.{get};
 ghost use Rattle.outside.specs.Causes.{HasCause};
-ghost use Rattle.disk_table.specs.Table.{no_entries};
+ghost use Rattle.disk_table.specs.Table.{no_entries, is_due};
 ghost use Rattle.cache_folder.specs.Offered.{journal_bkp, offered};
 ghost use Rattle.cache_folder.specs.Images.{IfKnown, WasKnown, Runs};
 ghost use Rattle.cache_folder.specs.Starts.{HasNoEdits, OffersSame, IsOpen};
@@ -154,4 +154,47 @@ fn settle<F: Files>(
         return Ok(());
     }
     new_journal(alloc, files, table)
+}
+
+// Writes a new journal where its lines have become too many.
+fn renew_journal<F: Files>(
+    alloc: Global,
+    files: &mut F,
+    table: &mut CacheTable,
+) -> Result<(), FileFault>
+    requires opened { IfKnown (F.history files.old) (λ h. IsOpen h.held table.old) }
+    requires free { HasNoEdits table.old }
+    ensures moments { IfKnown (F.history files.old) (λ h. Runs (OffersSame h.held) h (F.history files.new)) }
+    ensures opened { IsOk result → IfKnown (F.history files.new) (λ k. IsOpen k.held table.new) }
+    ensures settled { IsOk result → is_due table.new.table ≡ false }
+    ensures free { HasNoEdits table.new }
+    ensures known { WasKnown (F.history files.old) (F.history files.new) }
+    ensures cause { HasCause (F.faults files.old) (F.faults files.new) (result ≡ Err FileFault.Failed) }
+{
+    if !table.due() {
+        return Ok(());
+    }
+    new_journal(alloc, files, table)
+}
+
+/// Opens the files of a cache, and answers the table of what they offer. Each moment of it offers what was offered. Afterwards
+/// the journal says the table, and no other file is there than the journal and those of the entries.
+///
+/// The steps: `journal.bkp` takes the journal's name where there is no journal, and else goes; `journal.tmp` goes; the journal is
+/// read, and a bad one is taken away; keys that were left dirty, or whose file is missing or has another length, are dropped; all
+/// other files go; and a new journal is written where there was none that is whole, where a key was dropped, or where its lines
+/// have become too many.
+pub fn open<F: Files>(alloc: Global, files: &mut F) -> Result<CacheTable, FileFault>
+    ensures moments { IfKnown (F.history files.old) (λ h. Runs (OffersSame h.held) h (F.history files.new)) }
+    ensures opened { IfOk result (λ table. IfKnown (F.history files.new) (λ k. IsOpen k.held table)) }
+    ensures settled { IfOk result (λ table. is_due table.table ≡ false) }
+    ensures free { IfOk result (λ table. HasNoEdits table) }
+    ensures known { WasKnown (F.history files.old) (F.history files.new) }
+    ensures cause { HasCause (F.faults files.old) (F.faults files.new) (result ≡ Err FileFault.Failed) }
+{
+    let (found, whole) = find_table(alloc, files)?;
+    let mut table = found;
+    settle(alloc, files, &mut table, whole)?;
+    renew_journal(alloc, files, &mut table)?;
+    Ok(table)
 }
