@@ -1,4 +1,4 @@
-use Rattle.std.proofs.Common.{rules, ◌≡◌, ℕ, List, [], length, drop, ap, arith, length-drop}
+use Rattle.std.proofs.Common.{rules, ◌≡◌, [], length, drop, ap, arith, length-drop}
 use Rattle.cache_folder.proofs.journal_reader.apply_piece.Goals as goal
 
 pub returns-clause-read : goal.returns-clause-read

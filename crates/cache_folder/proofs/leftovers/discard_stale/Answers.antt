@@ -1,4 +1,4 @@
-use Rattle.std.proofs.Common.{[], sym, ap, ◌∙◌}
+use Rattle.std.proofs.Common.{sym, ap, ◌∙◌}
 use Rattle.cache_folder.specs.Starts.{without_all}
 use Rattle.cache_folder.proofs.Staying.{without_dropped, nothing_stale}
 use Rattle.cache_folder.proofs.leftovers.discard_stale.Goals as goal

@@ -1,7 +1,7 @@
-use Rattle.std.proofs.Common.{◌≡◌, ℕ, List, None, Some, refl, sym, ap, subst, ◌∙◌}
+use Rattle.std.proofs.Common.{◌≡◌, ℕ, List, None, refl, subst}
 use Rattle.std.specs.FinMap.{get}
-use Rattle.outside.specs.Files.{Folder, FolderHistory, Changes, deleted, passed_through}
-use Rattle.cache_folder.specs.Offered.{journal_tmp, journal_bkp}
+use Rattle.outside.specs.Files.{FolderHistory, Changes, deleted, passed_through}
+use Rattle.cache_folder.specs.Offered.{journal_bkp}
 use Rattle.cache_folder.specs.Starts.{OffersSame}
 use Rattle.cache_folder.proofs.Runs.{one, known_back, at_middle}
 use Rattle.cache_folder.proofs.Settling.{run_on, tmp_gone, still_alone}

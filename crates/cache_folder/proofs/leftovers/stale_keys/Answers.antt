@@ -1,5 +1,4 @@
-use Rattle.std.proofs.Common.{rules, ◌≡◌, ◌≤◌, ◌++◌, ◌∷◌, [], List, ℕ, refl, sym, ap, ◌∙◌, arith}
-use Rattle.disk_table.specs.Table.{keys_in}
+use Rattle.std.proofs.Common.{rules, ◌≡◌, ◌++◌, ◌∷◌, refl, sym, ap, ◌∙◌, arith}
 use Rattle.cache_folder.proofs.Staying.{stale_of, stale_all, stale_more}
 use Rattle.cache_folder.proofs.leftovers.stale_keys.Goals as goal
 

@@ -1,10 +1,8 @@
-use Rattle.std.proofs.Common.{◌≡◌, ◌≤◌, ℕ, List, true, refl, sym, ap, subst, ◌∙◌, inl, inr, arith, IsSome, get_or}
+use Rattle.std.proofs.Common.{refl, sym, ap, subst, ◌∙◌, inr, arith, IsSome}
 use Rattle.std.specs.FinMap.{get}
 use Rattle.std.specs.List.{list_any}
 use Rattle.std.specs.Str.{bytes_eq}
 use Rattle.outside.specs.Files.{FolderHistory, passed_through}
-use Rattle.cache_folder.specs.Offered.{offered}
-use Rattle.cache_folder.specs.Images.{Runs}
 use Rattle.cache_folder.specs.Starts.{Belongs}
 use Rattle.cache_folder.specs.inside.Leaving.{AreKnown, Sweeps}
 use Rattle.cache_folder.proofs.Runs.{run_none, run_has, run_weaken, known_more}

@@ -1,4 +1,4 @@
-use Rattle.std.proofs.Common.{◌≡◌, true, false, None, is_some, ap, refl, sym, ◌∙◌}
+use Rattle.std.proofs.Common.{◌≡◌, true, false, None, is_some, ap, sym, ◌∙◌}
 use Rattle.std.specs.FinMap.{get}
 use Rattle.cache_folder.specs.inside.Leaving.{Sweeps}
 use Rattle.cache_folder.proofs.Runs.{one, known_back, at_middle, run_none}

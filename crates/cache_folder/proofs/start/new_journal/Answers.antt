@@ -3,7 +3,7 @@ use Rattle.cache_folder.specs.Tables.{kept}
 use Rattle.cache_folder.specs.Sound.{RebuildWay, IsSound, listed}
 use Rattle.outside.specs.Files.{FolderHistory}
 use Rattle.cache_folder.specs.Starts.{OffersSame}
-use Rattle.cache_folder.proofs.Runs.{run_none, run_weaken, run_has, same_some}
+use Rattle.cache_folder.proofs.Runs.{run_weaken, run_has, same_some}
 use Rattle.cache_folder.proofs.Opening.{rebuild_same, open_after}
 use Rattle.cache_folder.proofs.start.new_journal.Goals as goal
 

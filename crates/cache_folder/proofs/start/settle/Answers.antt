@@ -1,4 +1,4 @@
-use Rattle.std.proofs.Common.{refl, ◌∙◌}
+use Rattle.std.proofs.Common.{◌∙◌}
 use Rattle.outside.specs.Files.{FolderHistory, passed_through}
 use Rattle.cache_folder.specs.Starts.{OffersSame}
 use Rattle.cache_folder.proofs.Runs.{run_weaken, known_more}

@@ -1,6 +1,6 @@
-use Rattle.std.proofs.Common.{◌≡◌, ℕ, List, refl, sym, ap, subst, false, is_ok}
+use Rattle.std.proofs.Common.{ℕ, List, refl, sym, ap, subst, false, is_ok}
 use Rattle.disk_table.specs.Table.{TableValue, no_entries}
-use Rattle.outside.specs.Files.{Folder, Changes, deleted}
+use Rattle.outside.specs.Files.{Changes, deleted}
 use Rattle.cache_folder.specs.Starts.{OffersSame}
 use Rattle.cache_folder.specs.inside.Loading.{IsRead}
 use Rattle.cache_folder.proofs.Runs.{one, known_back, at_middle, run_none}

@@ -1,4 +1,4 @@
-use Rattle.std.proofs.Common.{◌≡◌, ◌<◌, ◌^◌, arith, length, List, ℕ, Some, None, IsSome, true, is_some, refl, sym, ap, ◌∙◌}
+use Rattle.std.proofs.Common.{◌<◌, ◌^◌, arith, refl, sym, ap, ◌∙◌}
 use Rattle.cache_folder.specs.Tables.{CacheTableValue, kept, edit_at}
 use Rattle.cache_folder.proofs.Lists.{all_at}
 use Rattle.cache_folder.proofs.Kept.{edit_none, edit_some}

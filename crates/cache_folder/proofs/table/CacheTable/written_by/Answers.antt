@@ -1,4 +1,4 @@
-use Rattle.std.proofs.Common.{◌≡◌, IsSome, is_some, sym, ap, subst, ◌∙◌}
+use Rattle.std.proofs.Common.{is_some, ap, ◌∙◌}
 use Rattle.cache_folder.proofs.table.CacheTable.written_by.Goals as goal
 
 pub unreachable-requires : goal.unreachable-requires
