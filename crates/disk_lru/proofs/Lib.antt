@@ -1,5 +1,6 @@
 pub mod Begun
 pub mod Composed
+pub mod Evictions
 pub mod Fields
 pub mod Lines
 pub mod Promises

@@ -10,10 +10,11 @@ use Rattle.cache_folder.specs.Offered.{offered}
 use Rattle.cache_folder.specs.Steps.{Cached, CacheStep, all_stepped, offers}
 use Rattle.cache_folder.specs.Images.{IfKnown, WasKnown, Runs, OffersEither}
 use Rattle.cache_folder.specs.Sound.{listed}
+use Rattle.cache_folder.specs.Starts.{list_of_pairs}
 use Rattle.cache_folder.specs.Allowed.{Pass, IsWithin, values_of, handed_by}
 use Rattle.disk_lru.specs.State.{CacheState, entries, list_of, Offers}
 use Rattle.disk_lru.specs.Calls.{Steps, Passage, Makes}
-use Rattle.disk_lru.specs.Past.{PastValue, DiskState, steps_at, after_call, opened, opening, after_calls, InTurn, IsOnCourse, is_pair, is_among, given, OffersGiven, Promise}
+use Rattle.disk_lru.specs.Past.{PastValue, DiskState, steps_at, after_call, opening, after_calls, InTurn, IsOnCourse, is_pair, is_among, given, OffersGiven, Promise}
 use Rattle.disk_lru.proofs.Runs.{weaken, last_append, passed_append, run_more, run_weaken, run_has, known_more, same_some}
 
 -- ---- where no call has failed
@@ -121,13 +122,13 @@ promise_same s new p same = subst (λ c. Promise (record { cache = c; past = s.p
 
 -- ---- the start
 
-values_opened : (pairs : List (List ℕ × List ℕ)) → values_of (opened pairs) ≡ pairs
-values_opened [] = refl
-values_opened (p ∷ pairs) = ap (λ l. p ∷ l) (values_opened pairs)
+values_pairs : (pairs : List (List ℕ × List ℕ)) → values_of (list_of_pairs pairs) ≡ pairs
+values_pairs [] = refl
+values_pairs (p ∷ pairs) = ap (λ l. p ∷ l) (values_pairs pairs)
 
-offers_opened : (pairs : List (List ℕ × List ℕ)) → offers (opened pairs) ≡ pairs
-offers_opened [] = refl
-offers_opened (p ∷ pairs) = ap (λ l. p ∷ l) (offers_opened pairs)
+offers_pairs : (pairs : List (List ℕ × List ℕ)) → offers (list_of_pairs pairs) ≡ pairs
+offers_pairs [] = refl
+offers_pairs (p ∷ pairs) = ap (λ l. p ∷ l) (offers_pairs pairs)
 
 pub promise_start : (entry : Option FolderHistory) (cache : CacheState) (past : PastValue) → past ≡ record { entry = entry; calls = [] ∷ []; handed = []; failed = false } → WasKnown entry cache.history
     → IfKnown entry (λ h. Runs (λ c. offered c ≡ offered h.held) h cache.history) → IfKnown entry (λ h. IfKnown cache.history (λ k. list_of k.held cache ≡ opening h)) → Promise (record { cache = cache; past = past })
@@ -136,9 +137,9 @@ promise_start entry cache past is known moments list = subst (λ q. Promise (rec
   course = λ none h e. let run = moments h e in record {
     contents = run.contents;
     after_is = run.after_is;
-    in_turn = (run.contents, [], sym (append-nil run.contents), weaken _ _ (λ c y. inl (y ∙ sym (offers_opened (offered h.held)))) run.contents run.each, refl);
+    in_turn = (run.contents, [], sym (append-nil run.contents), weaken _ _ (λ c y. inl (y ∙ sym (offers_pairs (offered h.held)))) run.contents run.each, refl);
     list = list h e _ run.after_is;
-    offers_now = run.here ∙ sym (offers_opened (offered h.held)) ∙ ap offers (sym (list h e _ run.after_is));
+    offers_now = run.here ∙ sym (offers_pairs (offered h.held)) ∙ ap offers (sym (list h e _ run.after_is));
   };
   given_only = λ h e.
       let same : offered h.held ++ [] ≡ offered h.held = append-nil _ in
@@ -148,7 +149,7 @@ promise_start entry cache past is known moments list = subst (λ q. Promise (rec
         moments = moments';
         within = λ k e'. record {
           offers_allowed = run_has _ h k cache.history moments' e';
-          keeps_allowed = subst (Pass (is_among (offered h.held ++ []))) (sym (ap values_of (list h e k e') ∙ values_opened (offered h.held))) own;
+          keeps_allowed = subst (Pass (is_among (offered h.held ++ []))) (sym (ap values_of (list h e k e') ∙ values_pairs (offered h.held))) own;
         };
       };
 }

@@ -7,6 +7,7 @@ use Rattle.outside.specs.Files.{Folder, FolderHistory, last_of, passed_through}
 use Rattle.cache_folder.specs.Offered.{offered}
 use Rattle.cache_folder.specs.Steps.{Cached, CacheStep, all_stepped}
 use Rattle.cache_folder.specs.Images.{IfKnown, WasKnown, Runs, OffersEither}
+use Rattle.cache_folder.specs.Starts.{list_offered}
 use Rattle.cache_folder.specs.Allowed.{Pass, IsWithin, handed_by}
 use Rattle.disk_lru.specs.State.{CacheState, entries, list_of, Offers}
 use Rattle.disk_lru.specs.Calls.{Steps}
@@ -47,14 +48,9 @@ after_call steps failed past = record {
 
 -- ---- where no call has failed
 
--- pairs as a list with no key under edit
-abbrev pub opened : List (List ℕ × List ℕ) → Cached (List ℕ)
-opened [] = []
-opened (p ∷ pairs) = (p.0, record { values = Some p.1; marked = false }) ∷ opened pairs
-
 -- the list that was offered when `start` was called
 abbrev pub opening : FolderHistory → Cached (List ℕ)
-opening entry = opened (offered entry.held)
+opening entry = list_offered entry.held
 
 abbrev pub after_calls : Cached (List ℕ) → List (List (CacheStep (List ℕ))) → Cached (List ℕ)
 after_calls es [] = es

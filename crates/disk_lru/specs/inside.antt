@@ -1,2 +1,3 @@
+pub mod Evicting
 pub mod Kept
 pub mod Rebuilds

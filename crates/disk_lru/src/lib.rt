@@ -7,6 +7,7 @@ mod disk;
 mod edit;
 mod past;
 mod refusals;
+mod start;
 
 pub use disk::DiskLru;
 pub use edit::Edit;
