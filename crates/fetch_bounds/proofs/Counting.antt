@@ -36,7 +36,7 @@ use Rattle.fetch_bounds.proofs.Remaining.{there_law}
 use Rattle.fetch_bounds.proofs.Right.{AllRight, right_law, right_or_free}
 use Rattle.fetch_bounds.proofs.Seats.{known_there}
 use Rattle.fetch_bounds.proofs.Shares.{none_started, shared_loads_start_no_job}
-use Rattle.fetch_bounds.proofs.Standing.{IsKnown, Stands, begin_stands, drop_stands, loaded, opening_stands, same_number, trim_stands, work_stands}
+use Rattle.fetch_bounds.proofs.Standing.{IsKnown, Stands, begin_stands, drop_stands, load_known, loaded, opening_stands, trim_stands, work_stands}
 use Rattle.fetch_bounds.proofs.Starting.{IsMore, IsNoLoad, as_many_law, no_source_start}
 use Rattle.fetch_bounds.specs.Costs.{cached_begins, is_started, source_start, source_starts}
 use Rattle.fetch_bounds.specs.Findable.{IsFindable, LoadsAskAll}
@@ -148,12 +148,11 @@ module _ (g : Grounds) (k : Course) where
           let n : ℕ = is.0 in
           let does : Transition w e.by (events.Collect n) e.note.reply m = subst (λ event. Transition w e.by event e.note.reply m) is.2 s.step in
           let found = collected_ready (get w.loads (e.by, n)) (sym does.0 ∙ is.3) in
-          let l : IsKnown (known 0) b = at.stands.live_are b b_in in
-          let own_at : get (known 0).loads n ≡ Some l.2 = ap (get (known 0).loads) (same_number b n l.0 is.1 l.1) ∙ l.3 in
-          let state = known_there w.jobs w.resources (get (known 0).loads n) (get w.loads (0, n)) l.2 own_at ((at.stands.sound.known_is 0).each n) in
+          let l = load_known (known 0) b n is.1 (at.stands.live_are b b_in) in
+          let state = known_there w.jobs w.resources (get (known 0).loads n) (get w.loads (0, n)) l.0 l.1 ((at.stands.sound.known_is 0).each n) in
           let same : state.0 ≡ Ready found.0 = same_Some _ _ (sym state.1 ∙ ap (λ q. get w.loads (q, n)) (sym mine) ∙ found.1) in
-          let refers : RefersTo w.jobs w.resources l.2 (Ready found.0) = subst (RefersTo w.jobs w.resources l.2) same state.2.refers in
-          subst (IsInMemory b.spec.key) (sym does.1) (found.0, refers.0, refers.1, refers.2 ∙ l.4)
+          let refers : RefersTo w.jobs w.resources l.0 (Ready found.0) = subst (RefersTo w.jobs w.resources l.0) same state.2.refers in
+          subst (IsInMemory b.spec.key) (sym does.1) (found.0, refers.0, refers.1, refers.2 ∙ l.2)
 
       pub completed : (b : Begin) (picture : Picture) → In b live → IsEndOf b (Ok picture) e → InStep begun live (b.spec.key ∷ complete) m (known_after known e)
       completed b picture b_in is =

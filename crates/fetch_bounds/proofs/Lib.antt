@@ -24,3 +24,4 @@ mod Remembered
 mod Answered
 mod Parts
 mod Licence
+mod OwnMarks

@@ -42,7 +42,7 @@ use Rattle.fetch_bounds.proofs.Histories.{Goes, Grounds, Said, legal_goes, step_
 use Rattle.fetch_bounds.proofs.Keys.{SameIsEqual, same_key-of}
 use Rattle.fetch_bounds.proofs.Maps.{and_both}
 use Rattle.fetch_bounds.proofs.Seats.{there_known}
-use Rattle.fetch_bounds.proofs.Standing.{IsKnown, Stands, begin_stands, drop_stands, in_without, opening_stands, same_number, stays_without, trim_stands, work_stands}
+use Rattle.fetch_bounds.proofs.Standing.{IsKnown, Stands, begin_stands, drop_stands, in_without, load_known, opening_stands, same_number, stays_without, trim_stands, work_stands}
 use Rattle.fetch_bounds.proofs.Starting.{IsNoLoad}
 use Rattle.fetch_bounds.specs.Costs.{failed_address, failed_by, failed_from}
 use Rattle.fetch_bounds.specs.Follows.{Follows, IsEndOf, IsLoadBy, IsLoadOf, IsReleaseOf, IsTrimTo, IsWork, reply_of}
@@ -246,13 +246,13 @@ module _ (g : Grounds) (limits : Limits) (content : Option Contents) (every : Li
         let live_one = at.stands.known_are n own.0 own.1 in
         let same : live_one.0 ≡ b = apart live_one.0 b (at.in_every live_one.0 live_one.1) b_in (live_one.2 ∙ sym load_of) in
         let b_live : In b live = subst (λ o. In o live) same live_one.1 in
-        let l : IsKnown (known 0) b = at.stands.live_are b b_live in
-        let same_load : own.0 ≡ l.2 = same_Some _ _ (sym own.1 ∙ ap (get (known 0).loads) (same_number b n l.0 load_of l.1) ∙ l.3) in
+        let l = load_known (known 0) b n load_of (at.stands.live_are b b_live) in
+        let same_load : own.0 ≡ l.0 = same_Some own.0 l.0 (sym own.1 ∙ l.1) in
         let refers : RefersTo w.jobs w.resources own.0 (Waiting j) = own.2.refers in
         let mine : Permits w.content (known e.by) (events.Fail j causes.Source) = subst (Permits w.content (known e.by)) is s.permits in
         let r = Seats.runs w known e.by j at.stands.sound mine.0 in
         let one_job : refers.0 ≡ r.job = same_Some _ _ (sym refers.1 ∙ r.at) in
-        let of_load : b.spec.key ≡ own.0.key = sym l.4 ∙ ap (λ (o : OwnLoad). o.key) (sym same_load) in
+        let of_load : b.spec.key ≡ own.0.key = sym l.2 ∙ ap (λ (o : OwnLoad). o.key) (sym same_load) in
         let of_job : refers.0.spec.key ≡ r.job.spec.key = ap (λ (o : Job). o.spec.key) one_job in
         let of_seat : r.job.spec.key ≡ mine.0.job.spec.key = ap (λ (o : LoadSpec). o.key) r.is.spec in
         let key_is : b.spec.key ≡ mine.0.job.spec.key = of_load ∙ (sym refers.3 ∙ (of_job ∙ of_seat)) in

@@ -44,6 +44,10 @@ pub record Stands (limits : Limits) (content : Option Contents) (begun : ℕ) (l
 pub same_number : (b : Begin) (n m : ℕ) → IsLoadOf b n → IsLoadOf b m → n ≡ m
 same_number b n m e h = omega (arith, e, h)
 
+-- a begin's load, by its number
+pub load_known : (known : Knowledge) (b : Begin) (n : ℕ) → IsLoadOf b n → IsKnown known b → (own : OwnLoad) × (get known.loads n ≡ Some own) × (own.key ≡ b.spec.key)
+load_known known b n load_of is = (is.2, ap (get known.loads) (same_number b n is.0 load_of is.1) ∙ is.3, is.4)
+
 pub in_without : (number : ℕ) (b : Begin) (bs : List Begin) → In b (without_begin number bs) → In b bs × (b.number ≢ number)
 in_without number b [] h = absurd h
 in_without number b (x ∷ bs) h = elim (eqb x.number number) as (λ t. eqb x.number number ≡ t → In b (cond (not t) (x ∷ without_begin number bs) (without_begin number bs)) → In b (x ∷ bs) × (b.number ≢ number)) [
@@ -129,9 +133,8 @@ module _ (g : Grounds) (P : Said) (limits : Limits) (content : Option Contents) 
 
       one_less : len left ≡ length (without_begin b.number live)
       one_less =
-          let l : IsKnown (known 0) b = at.live_are b b_in in
-          let there : get (known 0).loads is.0 ≡ Some l.2 = ap (get (known 0).loads) (same_number b is.0 l.0 is.1 l.1) ∙ l.3 in
-          let less : len left ≡ len (known 0).loads - 1 = len-remove nat_cmp_total (known 0).loads is.0 ∙ ap (λ o. cond (is_some o) (len (known 0).loads - 1) (len (known 0).loads)) there in
+          let l = load_known (known 0) b is.0 is.1 (at.live_are b b_in) in
+          let less : len left ≡ len (known 0).loads - 1 = len-remove nat_cmp_total (known 0).loads is.0 ∙ ap (λ o. cond (is_some o) (len (known 0).loads - 1) (len (known 0).loads)) l.1 in
           omega (arith, less, at.size_is, fewer)
 
       pub drop_stands : Stands limits content begun (without_begin b.number live) m next

@@ -5,4 +5,5 @@ pub mod Parts
 pub mod Costs
 pub mod Answered
 pub mod Laws
+pub mod OwnMarks
 pub mod Worked

@@ -2,11 +2,12 @@
 ghost use Rattle.engine_world.specs.declared.events.Event.{Event};
 ghost use Rattle.fetch_bounds.specs.Answered.{OrdersAreTheTraces, EndsAreAnswered, LinesAreAnswered};
 ghost use Rattle.fetch_bounds.specs.Parts.{TracesJoin};
+ghost use Rattle.fetch_bounds.specs.OwnMarks.{RunsMarkThemselves};
 ghost use Rattle.fetch_bounds.specs.Laws.{SharedLoadsStartNoJob, OpensFindable, KeepsFindable, KeepsAllRemembered, KeepsPictures, RunsAreBounded, FailedJobsSuffice};
 
 use cache_key::same_key_is_equality;
 use engine_world::{each_event_keeps_opening, each_event_keeps_sound, each_history_is_sound};
-use script_walk::{begins_run_together, traces_are_orderly};
+use script_walk::{begins_run_together, ends_decide_the_walk, traces_are_orderly};
 
 /// A load of a picture that another load has, or waits for, starts no job, as long as all loads of its key ask memory and may
 /// ask the source.
@@ -62,4 +63,17 @@ pub fn failed_jobs_suffice<M, R>()
     each_history_is_sound::<M, R>();
     traces_are_orderly();
     begins_run_together();
+}
+
+/// A run whose pictures are right is the content's walk under marks of its own: each of its failures that no content gives is
+/// marked, and a begin is marked as failed by its source only where its load failed so.
+pub fn runs_mark_themselves<M, R>()
+    ensures { RunsMarkThemselves M R }
+{
+    same_key_is_equality();
+    each_event_keeps_sound();
+    each_event_keeps_opening();
+    each_history_is_sound::<M, R>();
+    traces_are_orderly();
+    ends_decide_the_walk();
 }

@@ -7,5 +7,5 @@ mod worked;
 
 pub use laws::{
     failed_jobs_suffice, followed_traces_are_answered, followed_traces_join, loads_are_shared,
-    pictures_stay_in_memory, runs_are_bounded,
+    pictures_stay_in_memory, runs_are_bounded, runs_mark_themselves,
 };
