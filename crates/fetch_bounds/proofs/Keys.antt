@@ -1,5 +1,5 @@
 -- Equal keys, and the resources that have a key.
-use Rattle.std.proofs.Common.{◌≡◌, ℕ, Bool, true, false, Some, None, Option, refl, ap, sym, ◌∙◌, true≢false}
+use Rattle.std.proofs.Common.{◌≡◌, ℕ, true, false, Some, None, Option, refl, ap, sym, ◌∙◌, true≢false}
 use Rattle.std.specs.Prelude.{IsTrue, ◌↔◌}
 use Rattle.std.specs.FinMap.{get}
 use Rattle.cache_key.specs.Key.{Key, same_key}

@@ -1,5 +1,5 @@
 -- What a sound world has of what seats know: their loads and their jobs.
-use Rattle.std.proofs.Common.{◌≡◌, ◌≢◌, ℕ, ◌+◌, ◌<◌, ◌≤◌, true, false, cond, eqb, List, [], ◌∷◌, map, Some, None, Option, refl, ap, sym, subst, ◌∙◌, arith}
+use Rattle.std.proofs.Common.{◌≡◌, ◌≢◌, ℕ, ◌+◌, ◌<◌, ◌≤◌, true, false, cond, eqb, List, map, Some, None, Option, refl, ap, sym, subst, ◌∙◌, arith}
 use Rattle.std.specs.FinMap.{get, insert, nat_cmp-IsAntisymmetric}
 use Rattle.std.specs.Cmp.{nat_cmp_total}
 use Rattle.std.proofs.lemmas.Bool.{eqb-true, eqb-false}
@@ -17,8 +17,8 @@ use Rattle.engine_world.specs.World.{LoadState, Loads, Job, Jobs, Resource, Reso
 use Rattle.engine_world.specs.Places.{one_if, occurrences, lent_numbers, is_held, times_out, times_kept, whereabouts}
 use Rattle.engine_world.specs.Knowledge.{OwnLoad, OwnJob, Knowledge, updated, knowledge_with}
 use Rattle.engine_world.specs.Permits.{IsRunning, IsResult}
-use Rattle.engine_world.specs.Sound.{LoadAgrees, LoadsAgree, JobAgrees, KnowledgeAgrees, Facts, facts, Sound}
-use Rattle.fetch_bounds.proofs.Maps.{load_total, load_same, one_if_same, one_if_other}
+use Rattle.engine_world.specs.Sound.{LoadAgrees, LoadsAgree, JobAgrees, KnowledgeAgrees, Facts, Sound}
+use Rattle.fetch_bounds.proofs.Maps.{load_total, load_same, one_if_same}
 
 -- ---- one seat
 

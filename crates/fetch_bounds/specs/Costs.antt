@@ -1,6 +1,6 @@
 -- What a history shows of the jobs that may ask a source: how many were started and how many were run, and whose sources
 -- failed. This project's own.
-use Rattle.std.specs.Prelude.{ℕ, ◌+◌, Bool, true, false, not, ◌&&◌, List, [], ◌∷◌, ◌++◌, Some, None}
+use Rattle.std.specs.Prelude.{ℕ, ◌+◌, Bool, true, false, not, ◌&&◌, List, [], ◌∷◌, ◌++◌, Some}
 use Rattle.std.specs.declared.option.Option.{Option}
 use Rattle.outside.specs.Content.{Address}
 use Rattle.cache_key.specs.KeyBytes.{address_of}

@@ -1,5 +1,5 @@
 -- The laws of loads that start no job, and of how many jobs a walk costs. They are this project's own.
-use Rattle.std.specs.Prelude.{◌≡◌, ℕ, ◌+◌, ◌≤◌, true, List, [], ◌∷◌, ◌++◌, length, count_by, slice_index_or, Some, ⊤}
+use Rattle.std.specs.Prelude.{◌≡◌, ℕ, ◌+◌, ◌≤◌, true, List, [], ◌++◌, length, count_by, slice_index_or, Some, ⊤}
 use Rattle.std.specs.declared.option.Option.{Option}
 use Rattle.std.specs.Option.{is_some}
 use Rattle.std.specs.FinMap.{get}
@@ -14,11 +14,11 @@ use Rattle.script_lines.specs.Script.{Numbered}
 use Rattle.state_machine.specs.declared.entry.Entry.{Entry}
 use Rattle.state_machine.specs.Legal.{Leads, IsLegal}
 use Rattle.load_table.specs.declared.loads.LoadState.TheVariants.{Failed}
-use Rattle.load_table.specs.Loads.{LoadName, owned}
+use Rattle.load_table.specs.Loads.{owned}
 use Rattle.engine_world.specs.declared.events.Event.{Event}
 use Rattle.engine_world.specs.declared.events.NotedReply.{NotedReply}
 use Rattle.engine_world.specs.declared.events.Note.{Note}
-use Rattle.engine_world.specs.World.{LoadState, Limits, World, opening}
+use Rattle.engine_world.specs.World.{Limits, World, opening}
 use Rattle.engine_world.specs.Steps.{load, Transition}
 use Rattle.engine_world.specs.Knowledge.{OwnLoad, Knowledge}
 use Rattle.engine_world.specs.Permits.{Permits}

@@ -1,5 +1,5 @@
 -- Worked histories, on which the definitions are computed. This project's own.
-use Rattle.std.specs.Prelude.{ℕ, List, [], ◌∷◌, ◌++◌}
+use Rattle.std.specs.Prelude.{List, [], ◌∷◌, ◌++◌}
 use Rattle.bitmap_kind.specs.Picture.{BitmapValue}
 use Rattle.bitmap_kind.specs.declared.bitmaps.Config.TheVariants.{Argb8888}
 use Rattle.cache_key.specs.Room.{empty_spec}
