@@ -5,4 +5,5 @@ pub use Rattle.engine_shared.specs.Caller
 pub mod JobCalls
 pub mod Sources
 pub mod Ends
+pub mod Laws
 pub mod inside

@@ -8,4 +8,5 @@ mod run;
 mod texts;
 
 pub use ends::JobEnd;
+pub use laws::jobs_leave_loads;
 pub use run::run_job;
