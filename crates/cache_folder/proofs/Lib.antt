@@ -4,6 +4,7 @@ pub mod Calls
 pub mod Counting
 pub mod Edits
 pub mod Eldest
+pub mod Filling
 pub mod Folders
 pub mod Journaled
 pub mod Kept

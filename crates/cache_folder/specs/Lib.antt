@@ -3,6 +3,7 @@ pub mod Images
 pub mod Journals
 pub mod Laws
 pub mod Offered
+pub mod Reading
 pub mod Sound
 pub mod Starts
 pub mod Steps

@@ -20,9 +20,13 @@ use journal_lines::text_is_its_lines;
 /// whole line leaves. Afterwards the journal says what the line leaves.
 pub fn line_is_written_at_once()
     ensures before { (f : Folder) (es : Replayed) → Says f es → offered f ≡ readable f es }
-    ensures images { (f : Folder) (es : Replayed) (line : Line) → Says f es → IsLine line → length (replayed es line) ≤ 16400
-        → AllByRecursion (λ c. (offered c ≡ readable f es) ⊎ (offered c ≡ readable f (replayed es line))) (appended journal_name (ended (spelled line)) f) }
-    ensures last { (f : Folder) (es : Replayed) (line : Line) → Says f es → IsLine line → length (replayed es line) ≤ 16400
+    ensures images { (f : Folder) (es : Replayed) (line : Line) → Says f es → IsLine line
+        → length (replayed es line) ≤ 16400
+        → AllByRecursion (λ c. (offered c ≡ readable f es) ⊎
+        (offered c ≡ readable f (replayed es line)))
+        (appended journal_name (ended (spelled line)) f) }
+    ensures last { (f : Folder) (es : Replayed) (line : Line) → Says f es → IsLine line
+        → length (replayed es line) ≤ 16400
         → Says (last_of f (appended journal_name (ended (spelled line)) f)) (replayed es line) }
 {
     text_is_its_lines();
@@ -31,8 +35,10 @@ pub fn line_is_written_at_once()
 /// A folder that offers the list before or after a step is on the way of that step; and where some calls run one after the
 /// other, each image of them is on the way of all their steps, in order.
 pub fn calls_in_turn()
-    ensures step { (es : Cached (List ℕ)) (step : CacheStep (List ℕ)) (c : Folder) → OffersEither es (stepped es step) c → IsOnTheWay es (step ∷ []) c }
-    ensures turn { (es : Cached (List ℕ)) (xs ys : List (CacheStep (List ℕ))) (h k : FolderHistory) (after : Option FolderHistory)
+    ensures step { (es : Cached (List ℕ)) (step : CacheStep (List ℕ)) (c : Folder)
+        → OffersEither es (stepped es step) c → IsOnTheWay es (step ∷ []) c }
+    ensures turn { (es : Cached (List ℕ)) (xs ys : List (CacheStep (List ℕ))) (h k : FolderHistory)
+        (after : Option FolderHistory)
         → Runs (IsOnTheWay es xs) h (Some k) → Runs (IsOnTheWay (all_stepped es xs) ys) k after
         → Runs (IsOnTheWay es (xs ++ ys)) h after }
 {}
@@ -40,10 +46,13 @@ pub fn calls_in_turn()
 /// The first changes of a start offer what was offered: `journal.bkp` is deleted where `journal` is there, and takes its name
 /// where it is not; `journal.tmp` is deleted; and then each file that is not the journal and of no entry that is offered.
 pub fn start_offers_the_same()
-    ensures backup { (f : Folder) → IsSome (get f journal_name) → AllByRecursion (λ c. offered c ≡ offered f) (deleted journal_bkp f) }
-    ensures back { (f : Folder) → get f journal_name ≡ None → AllByRecursion (λ c. offered c ≡ offered f) (renamed journal_bkp journal_name f) }
+    ensures backup { (f : Folder) → IsSome (get f journal_name)
+        → AllByRecursion (λ c. offered c ≡ offered f) (deleted journal_bkp f) }
+    ensures back { (f : Folder) → get f journal_name ≡ None
+        → AllByRecursion (λ c. offered c ≡ offered f) (renamed journal_bkp journal_name f) }
     ensures new { (f : Folder) → AllByRecursion (λ c. offered c ≡ offered f) (deleted journal_tmp f) }
-    ensures foreign { (f : Folder) (name : List ℕ) → name ≢ journal_name → get f journal_bkp ≡ None → AllByRecursion (λ p. value_name p.0 ≢ name) (offered f)
+    ensures foreign { (f : Folder) (name : List ℕ) → name ≢ journal_name → get f journal_bkp ≡ None
+        → AllByRecursion (λ p. value_name p.0 ≢ name) (offered f)
         → AllByRecursion (λ c. offered c ≡ offered f) (deleted name f) }
 {}
 

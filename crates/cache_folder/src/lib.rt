@@ -7,6 +7,7 @@ mod journal_reader;
 mod laws;
 mod leftovers;
 mod names;
+pub mod reading;
 pub mod rebuild;
 pub mod start;
 pub mod steps;

@@ -20,8 +20,11 @@ use std::snapshot::Snapshot;
 // Writes the new journal beside the old one.
 fn write_new<F: Files>(alloc: Global, files: &mut F, table: &CacheTable) -> Result<(), FileFault>
     requires { IfKnown (F.history files.old) (λ h. IsKept h.held (kept table.now)) }
-    ensures ways { IfKnown (F.history files.old) (λ h. Runs (RebuildWay h.held (kept table.now)) h (F.history files.new)) }
-    ensures ok { IsOk result → IfKnown (F.history files.old) (λ h. IfKnown (F.history files.new) (λ k. k.held ≡ insert h.held journal_tmp (header ++ text_of (lines_for (kept table.now))))) }
+    ensures ways { IfKnown (F.history files.old)
+        (λ h. Runs (RebuildWay h.held (kept table.now)) h (F.history files.new)) }
+    ensures ok { IsOk result → IfKnown (F.history files.old)
+        (λ h. IfKnown (F.history files.new) (λ k.
+        k.held ≡ insert h.held journal_tmp (header ++ text_of (lines_for (kept table.now))))) }
     ensures known { WasKnown (F.history files.old) (F.history files.new) }
     ensures cause { HasCause (F.faults files.old) (F.faults files.new) (result ≡ Err FileFault.Failed) }
 {
@@ -40,10 +43,17 @@ fn swap<F: Files>(
     _before: &Snapshot<F>,
 ) -> Result<(), FileFault>
     requires kept { IfKnown (F.history _before.now.value) (λ h. IsKept h.held (kept table.now)) }
-    requires new { IfKnown (F.history files.old) (λ k. IfKnown (F.history _before.now.value) (λ h. k.held ≡ insert h.held journal_tmp (header ++ text_of (lines_for (kept table.now))))) }
-    ensures ways { IfKnown (F.history _before.now.value) (λ h. IfKnown (F.history files.old) (λ k. Runs (RebuildWay h.held (kept table.now)) k (F.history files.new))) }
-    ensures ok { IsOk result → IfKnown (F.history _before.now.value) (λ h. IfKnown (F.history files.old) (λ k. Done (F.history files.new) (kept table.now) (listed h.held (kept table.now)))) }
-    ensures lines { IsOk result → IfKnown (F.history _before.now.value) (λ h. IfKnown (F.history files.old) (λ k.
+    requires new { IfKnown (F.history files.old)
+        (λ k. IfKnown (F.history _before.now.value)
+        (λ h. k.held ≡ insert h.held journal_tmp (header ++ text_of (lines_for (kept table.now))))) }
+    ensures ways { IfKnown (F.history _before.now.value)
+        (λ h. IfKnown (F.history files.old) (λ k.
+        Runs (RebuildWay h.held (kept table.now)) k (F.history files.new))) }
+    ensures ok { IsOk result → IfKnown (F.history _before.now.value)
+        (λ h. IfKnown (F.history files.old) (λ k.
+        Done (F.history files.new) (kept table.now) (listed h.held (kept table.now)))) }
+    ensures lines { IsOk result → IfKnown (F.history _before.now.value)
+        (λ h. IfKnown (F.history files.old) (λ k.
         IfKnown (F.history files.new) (λ m. line_count m.held ≡ length (kept table.now)))) }
     ensures alone { IsOk result → IfKnown (F.history files.new) (λ k. HasOneJournal k.held) }
     ensures known { WasKnown (F.history files.old) (F.history files.new) }
@@ -63,9 +73,12 @@ fn swap<F: Files>(
 /// said before, in the end the files are sound.
 pub fn rebuild<F: Files>(alloc: Global, files: &mut F, table: &CacheTable) -> Result<(), FileFault>
     requires { IfKnown (F.history files.old) (λ h. IsKept h.held (kept table.now)) }
-    ensures ways { IfKnown (F.history files.old) (λ h. Runs (RebuildWay h.held (kept table.now)) h (F.history files.new)) }
-    ensures ok { IsOk result → IfKnown (F.history files.old) (λ h. Done (F.history files.new) (kept table.now) (listed h.held (kept table.now))) }
-    ensures lines { IsOk result → IfKnown (F.history files.new) (λ k. line_count k.held ≡ length (kept table.now)) }
+    ensures ways { IfKnown (F.history files.old)
+        (λ h. Runs (RebuildWay h.held (kept table.now)) h (F.history files.new)) }
+    ensures ok { IsOk result → IfKnown (F.history files.old)
+        (λ h. Done (F.history files.new) (kept table.now) (listed h.held (kept table.now))) }
+    ensures lines { IsOk result → IfKnown (F.history files.new)
+        (λ k. line_count k.held ≡ length (kept table.now)) }
     ensures alone { IsOk result → IfKnown (F.history files.new) (λ k. HasOneJournal k.held) }
     ensures known { WasKnown (F.history files.old) (F.history files.new) }
     ensures cause { HasCause (F.faults files.old) (F.faults files.new) (result ≡ Err FileFault.Failed) }

@@ -23,7 +23,8 @@ use std::snapshot::Snapshot;
 pub fn add_line<F: Files>(alloc: Global, files: &mut F, line: &Line) -> Result<(), FileFault>
     requires short { HasShortLengths line.now }
     requires journal { IfKnown (F.history files.old) (λ h. IsSome (get h.held journal_name)) }
-    ensures files { Changes (appended journal_name (ended (spelled line.now))) (F.history files.old) (F.history files.new) result }
+    ensures files { Changes (appended journal_name (ended (spelled line.now))) (F.history files.old)
+        (F.history files.new) result }
     ensures cause { HasCause (F.faults files.old) (F.faults files.new) (result ≡ Err FileFault.Failed) }
 {
     let journal = names::journal();
@@ -40,9 +41,12 @@ pub fn begin<F: Files>(
 ) -> Result<(), FileFault>
     requires room { length (begun key.now (kept _before.now.value)) ≤ 16400 }
     requires sound { IfKnown (F.history files.old) (λ h. IsSound h.held (kept _before.now.value)) }
-    ensures ways { Ways key.now (kept _before.now.value) (λ f. Doubt key.now) (F.history files.old) (F.history files.new) }
-    ensures ok { IsOk result → Does (kept _before.now.value) (λ f. Doubt key.now) (begun key.now (kept _before.now.value)) (F.history files.old) (F.history files.new) }
-    ensures empty { IsOk result → IfKnown (F.history files.old) (λ h. IfKnown (F.history files.new) (λ k. text_at k.held (edit_name key.now) ≡ [])) }
+    ensures ways { Ways key.now (kept _before.now.value) (λ f. Doubt key.now) (F.history files.old)
+        (F.history files.new) }
+    ensures ok { IsOk result → Does (kept _before.now.value) (λ f. Doubt key.now)
+        (begun key.now (kept _before.now.value)) (F.history files.old) (F.history files.new) }
+    ensures empty { IsOk result → IfKnown (F.history files.old)
+        (λ h. IfKnown (F.history files.new) (λ k. text_at k.held (edit_name key.now) ≡ [])) }
     ensures lines { IsOk result → AddsLines 1 (F.history files.old) (F.history files.new) }
     ensures known { WasKnown (F.history files.old) (F.history files.new) }
     ensures cause { HasCause (F.faults files.old) (F.faults files.new) (result ≡ Err FileFault.Failed) }
@@ -64,8 +68,11 @@ pub fn commit<F: Files>(
     requires short { written < 2 ^ 40 }
     requires edit { edit_at key.now (kept table.now) ≡ Some written }
     requires sound { IfKnown (F.history files.old) (λ h. IsSound h.held (kept table.now)) }
-    ensures ways { Ways key.now (kept table.now) (λ f. Commit key.now (text_at f (edit_name key.now))) (F.history files.old) (F.history files.new) }
-    ensures ok { IsOk result → Does (kept table.now) (λ f. Commit key.now (text_at f (edit_name key.now))) (committed key.now written (kept table.now)) (F.history files.old) (F.history files.new) }
+    ensures ways { Ways key.now (kept table.now) (λ f. Commit key.now (text_at f (edit_name key.now)))
+        (F.history files.old) (F.history files.new) }
+    ensures ok { IsOk result → Does (kept table.now)
+        (λ f. Commit key.now (text_at f (edit_name key.now)))
+        (committed key.now written (kept table.now)) (F.history files.old) (F.history files.new) }
     ensures lines { IsOk result → AddsLines 1 (F.history files.old) (F.history files.new) }
     ensures known { WasKnown (F.history files.old) (F.history files.new) }
     ensures cause { HasCause (F.faults files.old) (F.faults files.new) (result ≡ Err FileFault.Failed) }
@@ -99,8 +106,10 @@ pub fn abort<F: Files>(
     requires edit { IsSome (edit_at key.now (kept table.now)) }
     requires old { len_at key.now (kept table.now) ≡ old }
     requires sound { IfKnown (F.history files.old) (λ h. IsSound h.held (kept table.now)) }
-    ensures ways { Ways key.now (kept table.now) (λ f. abort_step old key.now) (F.history files.old) (F.history files.new) }
-    ensures ok { IsOk result → Does (kept table.now) (λ f. abort_step old key.now) (aborted old key.now (kept table.now)) (F.history files.old) (F.history files.new) }
+    ensures ways { Ways key.now (kept table.now) (λ f. abort_step old key.now) (F.history files.old)
+        (F.history files.new) }
+    ensures ok { IsOk result → Does (kept table.now) (λ f. abort_step old key.now)
+        (aborted old key.now (kept table.now)) (F.history files.old) (F.history files.new) }
     ensures lines { IsOk result → AddsLines 1 (F.history files.old) (F.history files.new) }
     ensures known { WasKnown (F.history files.old) (F.history files.new) }
     ensures cause { HasCause (F.faults files.old) (F.faults files.new) (result ≡ Err FileFault.Failed) }
@@ -121,8 +130,10 @@ pub fn touch<F: Files>(
 ) -> Result<(), FileFault>
     requires known { IsSome (value_at key.now (kept table.now)) }
     requires sound { IfKnown (F.history files.old) (λ h. IsSound h.held (kept table.now)) }
-    ensures ways { Ways key.now (kept table.now) (λ f. Use key.now) (F.history files.old) (F.history files.new) }
-    ensures ok { IsOk result → Does (kept table.now) (λ f. Use key.now) (used key.now (kept table.now)) (F.history files.old) (F.history files.new) }
+    ensures ways { Ways key.now (kept table.now) (λ f. Use key.now) (F.history files.old)
+        (F.history files.new) }
+    ensures ok { IsOk result → Does (kept table.now) (λ f. Use key.now) (used key.now (kept table.now))
+        (F.history files.old) (F.history files.new) }
     ensures lines { IsOk result → AddsLines 1 (F.history files.old) (F.history files.new) }
     ensures known { WasKnown (F.history files.old) (F.history files.new) }
     ensures cause { HasCause (F.faults files.old) (F.faults files.new) (result ≡ Err FileFault.Failed) }
@@ -140,10 +151,13 @@ pub fn remove<F: Files>(
     table: &CacheTable,
 ) -> Result<(), FileFault>
     requires sound { IfKnown (F.history files.old) (λ h. IsSound h.held (kept table.now)) }
-    ensures ways { Ways key.now (kept table.now) (λ f. Drop key.now) (F.history files.old) (F.history files.new) }
-    ensures ok { IsOk result → Does (kept table.now) (λ f. Drop key.now) (without key.now (kept table.now)) (F.history files.old) (F.history files.new) }
+    ensures ways { Ways key.now (kept table.now) (λ f. Drop key.now) (F.history files.old)
+        (F.history files.new) }
+    ensures ok { IsOk result → Does (kept table.now) (λ f. Drop key.now)
+        (without key.now (kept table.now)) (F.history files.old) (F.history files.new) }
     ensures lines { IsOk result → AddsLines 1 (F.history files.old) (F.history files.new) }
-    ensures left { IfKnown (F.history files.old) (λ h. IfKnown (F.history files.new) (λ k. MayLose key.now h.held k.held)) }
+    ensures left { IfKnown (F.history files.old)
+        (λ h. IfKnown (F.history files.new) (λ k. MayLose key.now h.held k.held)) }
     ensures known { WasKnown (F.history files.old) (F.history files.new) }
     ensures cause { HasCause (F.faults files.old) (F.faults files.new) (result ≡ Err FileFault.Failed) }
 {
@@ -165,9 +179,15 @@ pub fn write<F: Files>(
     requires edit { edit_at key.now (kept table.now) ≡ Some written }
     requires small { written + length bytes.now < 2 ^ 40 }
     requires sound { IfKnown (F.history files.old) (λ h. IsSound h.held (kept table.now)) }
-    ensures ways { IfKnown (F.history files.old) (λ h. Runs (Way key.now h.held (listed h.held (kept table.now)) (listed h.held (kept table.now))) h (F.history files.new)) }
-    ensures ok { IsOk result → IfKnown (F.history files.old) (λ h. Done (F.history files.new) (grown_edit key.now (written + length bytes.now) (kept table.now)) (listed h.held (kept table.now))) }
-    ensures text { IsOk result → IfKnown (F.history files.old) (λ h. IfKnown (F.history files.new) (λ k. text_at k.held (edit_name key.now) ≡ text_at h.held (edit_name key.now) ++ bytes.now)) }
+    ensures ways { IfKnown (F.history files.old)
+        (λ h. Runs (Way key.now h.held (listed h.held (kept table.now))
+        (listed h.held (kept table.now))) h (F.history files.new)) }
+    ensures ok { IsOk result → IfKnown (F.history files.old)
+        (λ h. Done (F.history files.new) (grown_edit key.now (written + length bytes.now)
+        (kept table.now)) (listed h.held (kept table.now))) }
+    ensures text { IsOk result → IfKnown (F.history files.old)
+        (λ h. IfKnown (F.history files.new) (λ k. text_at k.held (edit_name key.now) ≡ text_at h.held
+        (edit_name key.now) ++ bytes.now)) }
     ensures lines { IsOk result → AddsLines 0 (F.history files.old) (F.history files.new) }
     ensures known { WasKnown (F.history files.old) (F.history files.new) }
     ensures cause { HasCause (F.faults files.old) (F.faults files.new) (result ≡ Err FileFault.Failed) }

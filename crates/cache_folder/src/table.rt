@@ -114,14 +114,18 @@ impl CacheTable {
     pub fn begin(&mut self, key: &Key) -> Result<u64, EditRefused>
         ensures kept { IfOk result (λ number. kept self.new ≡ begun key.now (kept self.old)) }
         ensures number { IfOk result (λ number. free_edit self.old.table.edits ≡ Some number) }
-        ensures edits { IfOk result (λ number. self.new.table.edits ≡ set self.old.table.edits number (Some key.now)) }
+        ensures edits { IfOk result (λ number. self.new.table.edits ≡ set self.old.table.edits number
+            (Some key.now)) }
         ensures open { IfOk result (λ number. edit_of key.now self.new.table.edits ≡ Some number) }
-        ensures others { IfOk result (λ number. (k : List ℕ) → k ≢ key.now → edit_of k self.new.table.edits ≡ edit_of k self.old.table.edits) }
+        ensures others { IfOk result (λ number. (k : List ℕ) → k ≢ key.now
+            → edit_of k self.new.table.edits ≡ edit_of k self.old.table.edits) }
         ensures within { IfOk result (λ number. number < 16) }
         ensures few { IfOk result (λ number. length (begun key.now (kept self.old)) ≤ 16400) }
         ensures lines { IfOk result (λ number. CountsLine self.old self.new) }
-        ensures busy { (number : ℕ) → IsErrOf result (EditRefused.Busy number) ↔ (edit_of key.now self.old.table.edits ≡ Some number) }
-        ensures too_many { IsErrOf result EditRefused.TooMany ↔ (is_full_for key.now self.old.table ≡ true) }
+        ensures busy { (number : ℕ) → IsErrOf result (EditRefused.Busy number)
+            ↔ (edit_of key.now self.old.table.edits ≡ Some number) }
+        ensures too_many { IsErrOf result EditRefused.TooMany
+            ↔ (is_full_for key.now self.old.table ≡ true) }
         ensures err { OnErr result (self.new ≡ self.old) }
     {
         let number = self.table.open_edit(key)?;
@@ -148,7 +152,8 @@ impl CacheTable {
         ensures kept { kept self.new ≡ committed key.now length (kept self.old) }
         ensures edits { self.new.table.edits ≡ set self.old.table.edits number None }
         ensures closed { edit_of key.now self.new.table.edits ≡ None }
-        ensures others { (k : List ℕ) → k ≢ key.now → edit_of k self.new.table.edits ≡ edit_of k self.old.table.edits }
+        ensures others { (k : List ℕ) → k ≢ key.now
+            → edit_of k self.new.table.edits ≡ edit_of k self.old.table.edits }
         ensures lines { CountsLine self.old self.new }
     {
         self.table.close_edit(number, Some(length));
@@ -162,7 +167,8 @@ impl CacheTable {
         ensures kept { kept self.new ≡ aborted old key.now (kept self.old) }
         ensures edits { self.new.table.edits ≡ set self.old.table.edits number None }
         ensures closed { edit_of key.now self.new.table.edits ≡ None }
-        ensures others { (k : List ℕ) → k ≢ key.now → edit_of k self.new.table.edits ≡ edit_of k self.old.table.edits }
+        ensures others { (k : List ℕ) → k ≢ key.now
+            → edit_of k self.new.table.edits ≡ edit_of k self.old.table.edits }
         ensures lines { CountsLine self.old self.new }
     {
         self.table.close_edit(number, old);
@@ -181,7 +187,8 @@ impl CacheTable {
     pub fn forget(&mut self, key: &Key)
         ensures kept { kept self.new ≡ without key.now (kept self.old) }
         ensures closed { edit_of key.now self.new.table.edits ≡ None }
-        ensures others { (k : List ℕ) → k ≢ key.now → edit_of k self.new.table.edits ≡ edit_of k self.old.table.edits }
+        ensures others { (k : List ℕ) → k ≢ key.now
+            → edit_of k self.new.table.edits ≡ edit_of k self.old.table.edits }
         ensures lines { is_known key.now (kept self.old) ≡ true → CountsLine self.old self.new }
     {
         match self.table.edit_of(key) {
@@ -210,14 +217,16 @@ impl CacheTable {
     /// The journal was rebuilt: it has a line for each key.
     pub fn rebuilt(&mut self)
         ensures kept { kept self.new ≡ kept self.old }
-        ensures table { self.new.table ≡ record self.old.table { lines = length self.old.table.entries } }
+        ensures table { self.new.table ≡ record self.old.table
+            { lines = length self.old.table.entries } }
     {
         self.table.rebuilt();
     }
 
     // The line of the key in a new journal.
     fn line_for(&self, key: &Key) -> Line
-        ensures line { result ≡ line_for key.now (hidden (len_at key.now (kept self.now)) (edit_at key.now (kept self.now))) }
+        ensures line { result ≡ line_for key.now
+            (hidden (len_at key.now (kept self.now)) (edit_at key.now (kept self.now))) }
         ensures short { HasShortLengths result }
     {
         let length = self.clean(key);
@@ -232,7 +241,9 @@ impl CacheTable {
 
     // Adds the line of the key to the text of a new journal.
     fn add_line_for(&self, text: &mut Vec<u8>, key: &Key) -> Result<(), AllocError>
-        ensures { OnOk result (text.new.items ≡ text.old.items ++ ended (spelled (line_for key.now (hidden (len_at key.now (kept self.now)) (edit_at key.now (kept self.now)))))) }
+        ensures { OnOk result (text.new.items ≡ text.old.items ++ ended
+            (spelled (line_for key.now (hidden (len_at key.now (kept self.now))
+            (edit_at key.now (kept self.now)))))) }
     {
         text.extend_from_slice(write_line(&self.line_for(key)).bytes())
     }
