@@ -1,3 +1,4 @@
+pub mod AfterReads
 pub mod Begun
 pub mod Composed
 pub mod Evictions
@@ -6,3 +7,4 @@ pub mod Lines
 pub mod Promises
 pub mod Results
 pub mod Runs
+pub mod Stays

@@ -4,5 +4,6 @@ pub mod Past
 pub mod PastSteps
 pub mod Started
 pub mod State
+pub mod Staying
 pub mod Trims
 pub mod inside

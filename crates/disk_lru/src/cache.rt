@@ -1,5 +1,6 @@
 // A disk cache without its past.
 ghost use Rattle.std.specs.Prelude.{◌≡◌, ◌⊎◌, ◌+◌, ◌<◌, ◌^◌, ◌++◌, ℕ, length, List, [], Bool, true, false, Ok, Some, None, Err, IsOk, IsErr, IsSome, IfOk, IfSome, is_err, set};
+ghost use Rattle.std.specs.Option.{option_map};
 ghost use Rattle.std.specs.FinMap.{get};
 ghost use Rattle.outside.specs.Causes.{HasCause};
 ghost use Rattle.disk_table.specs.UseOrder.{is_known, without, used};
@@ -9,13 +10,13 @@ ghost use Rattle.cache_folder.specs.Offered.{value_name, edit_name};
 ghost use Rattle.cache_folder.specs.Sound.{text_at};
 ghost use Rattle.cache_folder.specs.Tables.{kept, len_at, edit_at, is_offered, begun, committed, aborted, grown_edit};
 ghost use Rattle.disk_lru.specs.State.{CacheState, entries, edits, Offers, IsSettled};
-ghost use Rattle.disk_lru.specs.Calls.{Steps, no_steps, begin_steps, commit_steps, abort_steps, use_steps, drop_steps, CallOn, Makes, Fails, Stays, Forgets, ClosesEdit};
+ghost use Rattle.disk_lru.specs.Calls.{Steps, no_steps, begin_steps, commit_steps, abort_steps, use_steps, drop_steps, CallOn, Makes, Fails, Stays, Forgets, ClosesEdit, Unchanged};
 ghost use Rattle.disk_lru.specs.inside.Kept.{Keeps};
 ghost use Rattle.disk_lru.specs.inside.Rebuilds.{Rebuilds, Took};
 
 use crate::edit::Edit;
 use crate::refusals::DiskFault;
-use cache_folder::{CacheTable, calls_keep_others, rebuild, steps};
+use cache_folder::{CacheTable, calls_keep_others, reading, rebuild, steps};
 use journal_lines::Key;
 use outside::{FileFault, Files};
 use std::alloc::Global;
@@ -40,7 +41,14 @@ impl<F: Files> Model for OpenCache<F> {
 
     ghost coded = { Prim.hlevel (codes, folder_code) };
 
-    ghost view = { λ s. record { history = F.history s.files; faults = F.faults s.files; table = s.table; maximum = s.maximum; due = s.due } };
+    ghost view = { λ s. record {
+      history = F.history s.files;
+      faults = F.faults s.files;
+      table =
+          s.table;
+      maximum = s.maximum;
+      due = s.due;
+    } };
 
     ghost invariant = { λ s. Keeps (F.history s.files) s.table s.due };
 }
@@ -49,7 +57,13 @@ impl<F: Files> OpenCache<F> {
     /// Files with the table of their entries.
     pub fn of_parts(files: F, table: CacheTable, maximum: u64, due: bool) -> OpenCache<F>
         requires { Keeps (F.history files) table due }
-        ensures { result ≡ record { history = F.history files; faults = F.faults files; table = table; maximum = maximum; due = due } }
+        ensures { result ≡ record {
+          history = F.history files;
+          faults = F.faults files;
+          table = table;
+          maximum = maximum;
+          due = due;
+        } }
     {
         OpenCache {
             files,
@@ -131,11 +145,13 @@ impl<F: Files> OpenCache<F> {
         requires closed { edit_of key.now (edits self.old) ≡ None }
         requires room { is_full_for key.now self.old.table.table ≡ false }
         ensures ok { IsOk result → entries self.new ≡ begun key.now (entries self.old) }
-        ensures edits { IfOk result (λ number. edits self.new ≡ set (edits self.old) number (Some key.now)) }
+        ensures edits { IfOk result (λ number. edits self.new ≡ set (edits self.old) number
+            (Some key.now)) }
         ensures free { IfOk result (λ number. free_edit (edits self.old) ≡ Some number) }
         ensures open { IfOk result (λ number. edit_of key.now (edits self.new) ≡ Some number) }
         ensures within { IfOk result (λ number. number < 16) }
-        ensures empty { IsOk result → IfKnown self.new.history (λ k. text_at k.held (edit_name key.now) ≡ []) }
+        ensures empty { IsOk result → IfKnown self.new.history
+            (λ k. text_at k.held (edit_name key.now) ≡ []) }
         ensures took { IsOk result → Took key.now (begin_steps key.now) self.old self.new }
         ensures fails { IsErr result → Fails key.now (begin_steps key.now) self.old self.new }
         ensures maximum { self.new.maximum ≡ self.old.maximum }
@@ -164,7 +180,8 @@ impl<F: Files> OpenCache<F> {
     fn commit_now(&mut self, alloc: Global, key: &Key, number: u64) -> Result<(), FileFault>
         requires ready { self.old.due ≡ false }
         requires open { edit_of key.now (edits self.old) ≡ Some number }
-        ensures ok { IsOk result → (n : ℕ) → edit_at key.now (entries self.old) ≡ Some n → entries self.new ≡ committed key.now n (entries self.old) }
+        ensures ok { IsOk result → (n : ℕ) → edit_at key.now (entries self.old) ≡ Some n
+            → entries self.new ≡ committed key.now n (entries self.old) }
         ensures edit { ClosesEdit key.now self.old self.new }
         ensures took { IsOk result → Took key.now (commit_steps key.now) self.old self.new }
         ensures fails { IsErr result → Fails key.now (commit_steps key.now) self.old self.new }
@@ -190,7 +207,8 @@ impl<F: Files> OpenCache<F> {
     fn abort_now(&mut self, alloc: Global, key: &Key, number: u64) -> Result<(), FileFault>
         requires ready { self.old.due ≡ false }
         requires open { edit_of key.now (edits self.old) ≡ Some number }
-        ensures ok { IsOk result → entries self.new ≡ aborted (len_at key.now (entries self.old)) key.now (entries self.old) }
+        ensures ok { IsOk result → entries self.new ≡ aborted (len_at key.now (entries self.old))
+            key.now (entries self.old) }
         ensures edit { ClosesEdit key.now self.old self.new }
         ensures took { IsOk result → Took key.now (abort_steps key.now self.old) self.old self.new }
         ensures fails { IsErr result → Fails key.now (abort_steps key.now self.old) self.old self.new }
@@ -224,12 +242,16 @@ impl<F: Files> OpenCache<F> {
         requires ready { self.old.due ≡ false }
         requires within { number < 16 }
         requires open { edit_of key.now (edits self.old) ≡ Some number }
-        requires small { (n : ℕ) → edit_at key.now (entries self.old) ≡ Some n → n + length bytes.now < 2 ^ 40 }
-        ensures ok { IsOk result → (n : ℕ) → edit_at key.now (entries self.old) ≡ Some n → entries self.new ≡ grown_edit key.now (n + length bytes.now) (entries self.old) }
+        requires small { (n : ℕ) → edit_at key.now (entries self.old) ≡ Some n
+            → n + length bytes.now < 2 ^ 40 }
+        ensures ok { IsOk result → (n : ℕ) → edit_at key.now (entries self.old) ≡ Some n
+            → entries self.new ≡ grown_edit key.now (n + length bytes.now) (entries self.old) }
         ensures edits { IsOk result → edits self.new ≡ edits self.old }
         ensures took { IsOk result → Took key.now no_steps self.old self.new }
         ensures fails { IsErr result → Fails key.now no_steps self.old self.new }
-        ensures text { IsOk result → IfKnown self.old.history (λ h. IfKnown self.new.history (λ k. text_at k.held (edit_name key.now) ≡ text_at h.held (edit_name key.now) ++ bytes.now)) }
+        ensures text { IsOk result → IfKnown self.old.history
+            (λ h. IfKnown self.new.history (λ k. text_at k.held (edit_name key.now) ≡ text_at h.held
+            (edit_name key.now) ++ bytes.now)) }
         ensures maximum { self.new.maximum ≡ self.old.maximum }
         ensures cause { HasCause self.old.faults self.new.faults (result ≡ Err FileFault.Failed) }
     {
@@ -298,16 +320,100 @@ impl<F: Files> OpenCache<F> {
         }
     }
 
+    // Uses the entry of the key, where no rebuild is due.
+    fn touch_now(&mut self, alloc: Global, key: &Key) -> Result<(), FileFault>
+        requires ready { self.old.due ≡ false }
+        requires known { is_known key.now (entries self.old) ≡ true }
+        ensures ok { IsOk result → entries self.new ≡ used key.now (entries self.old) }
+        ensures edits { IsOk result → edits self.new ≡ edits self.old }
+        ensures took { IsOk result → Took key.now (use_steps key.now) self.old self.new }
+        ensures fails { IsErr result → Fails key.now (use_steps key.now) self.old self.new }
+        ensures maximum { self.new.maximum ≡ self.old.maximum }
+        ensures cause { HasCause self.old.faults self.new.faults (result ≡ Err FileFault.Failed) }
+    {
+        calls_keep_others();
+        match steps::touch(alloc, &mut self.files, key, &self.table) {
+            Ok(()) => {
+                self.table.touch(key);
+                Ok(())
+            }
+            Err(fault) => {
+                self.table.forget(key);
+                self.due = true;
+                Err(fault)
+            }
+        }
+    }
+
+    // Uses the entry of a known key.
+    fn use_entry(&mut self, alloc: Global, key: &Key) -> Result<(), FileFault>
+        requires known { is_known key.now (entries self.old) ≡ true }
+        ensures ok { IsOk result → entries self.new ≡ used key.now (entries self.old) }
+        ensures edits { IsOk result → edits self.new ≡ edits self.old }
+        ensures makes { IsOk result → Makes key.now (use_steps key.now) self.old self.new }
+        ensures fails { IsErr result → Fails key.now (use_steps key.now) self.old self.new }
+        ensures maximum { self.new.maximum ≡ self.old.maximum }
+        ensures cause { HasCause self.old.faults self.new.faults (result ≡ Err FileFault.Failed) }
+    {
+        calls_keep_others();
+        self.ready(alloc, key)?;
+        self.touch_now(alloc, key)?;
+        self.settle(alloc);
+        Ok(())
+    }
+
+    // The bytes of the key's value, or none where its file is missing.
+    fn read_value(&mut self, alloc: Global, key: &Key) -> Result<Option<Vec<u8>>, FileFault>
+        ensures same { Unchanged self.old self.new }
+        ensures bytes { IfKnown self.old.history (λ h. IfOk result (λ found.
+            option_map (λ v. v.items) found ≡ get h.held (value_name key.now))) }
+        ensures cause { HasCause self.old.faults self.new.faults (result ≡ Err FileFault.Failed) }
+    {
+        reading::read(alloc, &mut self.files, key)
+    }
+
+    /// Reads the entry of the key, which has a readable value and is not under edit, and uses it. None comes where its file is
+    /// missing.
+    pub fn get(&mut self, alloc: Global, key: &Key) -> Result<Option<Vec<u8>>, FileFault>
+        requires offered { is_offered key.now (entries self.old) ≡ true }
+        ensures none { IfOk result (λ found. found ≡ None → Unchanged self.old self.new) }
+        ensures bytes { IfKnown self.old.history (λ h. IfOk result (λ found.
+            option_map (λ v. v.items) found ≡ get h.held (value_name key.now))) }
+        ensures ok { IfOk result (λ found. IsSome found
+            → entries self.new ≡ used key.now (entries self.old)) }
+        ensures edits { IsOk result → edits self.new ≡ edits self.old }
+        ensures makes { IfOk result (λ found.
+            IsSome found → Makes key.now (use_steps key.now) self.old self.new) }
+        ensures fails { IsErr result → Fails key.now (use_steps key.now) self.old self.new }
+        ensures maximum { self.new.maximum ≡ self.old.maximum }
+        ensures cause { HasCause self.old.faults self.new.faults (result ≡ Err FileFault.Failed) }
+    {
+        calls_keep_others();
+        match self.read_value(alloc, key) {
+            Ok(None) => Ok(None),
+            Ok(Some(bytes)) => {
+                self.use_entry(alloc, key)?;
+                Ok(Some(bytes))
+            }
+            Err(fault) => {
+                self.fail(key);
+                Err(fault)
+            }
+        }
+    }
+
     /// Begins an edit of the key, which has none and for which there is room, and answers its number.
     pub fn begin(&mut self, alloc: Global, key: &Key) -> Result<u64, FileFault>
         requires closed { edit_of key.now (edits self.old) ≡ None }
         requires room { is_full_for key.now self.old.table.table ≡ false }
         ensures ok { IsOk result → entries self.new ≡ begun key.now (entries self.old) }
-        ensures edits { IfOk result (λ number. edits self.new ≡ set (edits self.old) number (Some key.now)) }
+        ensures edits { IfOk result (λ number. edits self.new ≡ set (edits self.old) number
+            (Some key.now)) }
         ensures free { IfOk result (λ number. free_edit (edits self.old) ≡ Some number) }
         ensures open { IfOk result (λ number. edit_of key.now (edits self.new) ≡ Some number) }
         ensures within { IfOk result (λ number. number < 16) }
-        ensures empty { IsOk result → IfKnown self.new.history (λ k. text_at k.held (edit_name key.now) ≡ []) }
+        ensures empty { IsOk result → IfKnown self.new.history
+            (λ k. text_at k.held (edit_name key.now) ≡ []) }
         ensures makes { IsOk result → Makes key.now (begin_steps key.now) self.old self.new }
         ensures fails { IsErr result → Fails key.now (begin_steps key.now) self.old self.new }
         ensures maximum { self.new.maximum ≡ self.old.maximum }
@@ -370,7 +476,8 @@ impl<F: Files> OpenCache<F> {
     /// Ends the edit of the key.
     pub fn commit(&mut self, alloc: Global, key: &Key, number: u64) -> Result<(), FileFault>
         requires open { edit_of key.now (edits self.old) ≡ Some number }
-        ensures ok { IsOk result → (n : ℕ) → edit_at key.now (entries self.old) ≡ Some n → entries self.new ≡ committed key.now n (entries self.old) }
+        ensures ok { IsOk result → (n : ℕ) → edit_at key.now (entries self.old) ≡ Some n
+            → entries self.new ≡ committed key.now n (entries self.old) }
         ensures edit { ClosesEdit key.now self.old self.new }
         ensures makes { IsOk result → Makes key.now (commit_steps key.now) self.old self.new }
         ensures fails { IsErr result → Fails key.now (commit_steps key.now) self.old self.new }
@@ -387,7 +494,8 @@ impl<F: Files> OpenCache<F> {
     /// Gives the edit of the key up.
     pub fn abort(&mut self, alloc: Global, key: &Key, number: u64) -> Result<(), FileFault>
         requires open { edit_of key.now (edits self.old) ≡ Some number }
-        ensures ok { IsOk result → entries self.new ≡ aborted (len_at key.now (entries self.old)) key.now (entries self.old) }
+        ensures ok { IsOk result → entries self.new ≡ aborted (len_at key.now (entries self.old))
+            key.now (entries self.old) }
         ensures edit { ClosesEdit key.now self.old self.new }
         ensures makes { IsOk result → Makes key.now (abort_steps key.now self.old) self.old self.new }
         ensures fails { IsErr result → Fails key.now (abort_steps key.now self.old) self.old self.new }
@@ -428,10 +536,14 @@ impl<F: Files> OpenCache<F> {
     ) -> Result<(), FileFault>
         requires within { number < 16 }
         requires open { edit_of key.now (edits self.old) ≡ Some number }
-        requires small { (n : ℕ) → edit_at key.now (entries self.old) ≡ Some n → n + length bytes.now < 2 ^ 40 }
-        ensures ok { IsOk result → (n : ℕ) → edit_at key.now (entries self.old) ≡ Some n → entries self.new ≡ grown_edit key.now (n + length bytes.now) (entries self.old) }
+        requires small { (n : ℕ) → edit_at key.now (entries self.old) ≡ Some n
+            → n + length bytes.now < 2 ^ 40 }
+        ensures ok { IsOk result → (n : ℕ) → edit_at key.now (entries self.old) ≡ Some n
+            → entries self.new ≡ grown_edit key.now (n + length bytes.now) (entries self.old) }
         ensures edits { IsOk result → edits self.new ≡ edits self.old }
-        ensures text { IsOk result → IfKnown self.old.history (λ h. IfKnown self.new.history (λ k. text_at k.held (edit_name key.now) ≡ text_at h.held (edit_name key.now) ++ bytes.now)) }
+        ensures text { IsOk result → IfKnown self.old.history
+            (λ h. IfKnown self.new.history (λ k. text_at k.held (edit_name key.now) ≡ text_at h.held
+            (edit_name key.now) ++ bytes.now)) }
         ensures makes { IsOk result → Makes key.now no_steps self.old self.new }
         ensures fails { IsErr result → Fails key.now no_steps self.old self.new }
         ensures maximum { self.new.maximum ≡ self.old.maximum }

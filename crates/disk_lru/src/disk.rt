@@ -1,5 +1,6 @@
 // A disk cache.
-ghost use Rattle.std.specs.Prelude.{◌≡◌, ◌⊎◌, ◌+◌, ◌<◌, ◌^◌, ◌++◌, ℕ, length, List, [], Bool, true, false, Ok, Some, None, Err, IsOk, IsErr, IsSome, IsErrOf, IfOk, IfSome, ◌↔◌, is_err, is_some, set};
+ghost use Rattle.std.specs.Prelude.{◌≡◌, ◌⊎◌, ◌+◌, ◌<◌, ◌^◌, ◌++◌, ℕ, length, List, [], Bool, true, false, Ok, Some, None, Err, IsOk, IsErr, IsSome, IsErrOf, IfOk, IfSome, ◌↔◌, is_err, is_some, set, if◌then◌else◌};
+ghost use Rattle.std.specs.Option.{option_map};
 ghost use Rattle.std.specs.FinMap.{get};
 ghost use Rattle.outside.specs.Causes.{HasCause};
 ghost use Rattle.disk_table.specs.UseOrder.{is_known, without, used};
@@ -76,6 +77,84 @@ impl<F: Files> DiskLru<F> {
         self.cache.has(key)
     }
 
+    // Reads the entry of a key that is offered.
+    fn get_offered(&mut self, alloc: Global, key: &Key) -> Result<Option<Vec<u8>>, FileFault>
+        requires { is_offered key.now (entries self.old.cache) ≡ true }
+        ensures none { IfOk result (λ found. found ≡ None
+            → self.new ≡ record self.old {
+              cache = record self.old.cache
+                  { faults = self.new.cache.faults };
+            }) }
+        ensures bytes { IfKnown self.old.cache.history (λ h. IfOk result (λ found.
+            option_map (λ v. v.items) found ≡ get h.held (value_name key.now))) }
+        ensures ok { IfOk result (λ found. IsSome found
+            → entries self.new.cache ≡ used key.now (entries self.old.cache)) }
+        ensures edits { IsOk result → edits self.new.cache ≡ edits self.old.cache }
+        ensures makes { IfOk result (λ found. IsSome found
+            → Makes key.now (use_steps key.now) self.old.cache self.new.cache) }
+        ensures fails { IsErr result → Fails key.now (use_steps key.now) self.old.cache self.new.cache }
+        ensures past { IfOk result (λ found. IsSome found
+            → self.new.past ≡ after_call (steps_at self.old.cache.history (use_steps key.now)) false
+            self.old.past) }
+        ensures past_err { IsErr result
+            → self.new.past ≡ after_call (steps_at self.old.cache.history (use_steps key.now)) true
+            self.old.past }
+        ensures maximum { self.new.cache.maximum ≡ self.old.cache.maximum }
+        ensures cause { HasCause self.old.cache.faults self.new.cache.faults
+            (result ≡ Err FileFault.Failed) }
+    {
+        let before = Snapshot::of(&self.cache);
+        match self.cache.get(alloc, key) {
+            Ok(None) => Ok(None),
+            Ok(Some(bytes)) => {
+                note(&mut self.past, before, ListStep::Use(*key), false);
+                Ok(Some(bytes))
+            }
+            Err(fault) => {
+                note(&mut self.past, before, ListStep::Use(*key), true);
+                Err(fault)
+            }
+        }
+    }
+
+    /// Reads the entry of the key: its file, and then the journal gets a line READ and the key is the most recent. None comes
+    /// exactly where the key has no readable value, is under edit, or its file is missing; then nothing has changed. Where a
+    /// failure made a rebuild due, that comes after the reads and before the line.
+    pub fn get(&mut self, alloc: Global, key: &Key) -> Result<Option<Vec<u8>>, DiskFault>
+        ensures bytes { IfKnown self.old.cache.history
+            (λ h. IfOk result (λ found. option_map (λ v. v.items) found
+            ≡ (if is_offered key.now (entries self.old.cache) then get h.held (value_name key.now) else None))) }
+        ensures offered { IfOk result (λ found. IsSome found
+            → is_offered key.now (entries self.old.cache) ≡ true) }
+        ensures none { IfOk result (λ found. found ≡ None
+            → self.new ≡ record self.old {
+              cache = record self.old.cache
+                  { faults = self.new.cache.faults };
+            }) }
+        ensures ok { IfOk result (λ found. IsSome found
+            → entries self.new.cache ≡ used key.now (entries self.old.cache)) }
+        ensures edits { IsOk result → edits self.new.cache ≡ edits self.old.cache }
+        ensures makes { IfOk result (λ found. IsSome found
+            → Makes key.now (use_steps key.now) self.old.cache self.new.cache) }
+        ensures err { IsErr result → is_offered key.now (entries self.old.cache) ≡ true }
+        ensures fails { IsErr result → Fails key.now (use_steps key.now) self.old.cache self.new.cache }
+        ensures past { IfOk result (λ found. IsSome found
+            → self.new.past ≡ after_call (steps_at self.old.cache.history (use_steps key.now)) false
+            self.old.past) }
+        ensures past_err { IsErr result
+            → self.new.past ≡ after_call (steps_at self.old.cache.history (use_steps key.now)) true
+            self.old.past }
+        ensures maximum { self.new.cache.maximum ≡ self.old.cache.maximum }
+        ensures cause { HasCause self.old.cache.faults self.new.cache.faults
+            (result ≡ Err DiskFault.Failed) }
+    {
+        if !self.cache.has(key) {
+            return Ok(None);
+        }
+        let found = self.get_offered(alloc, key)?;
+        Ok(found)
+    }
+
     // Begins an edit of the key, which has none and for which there is room.
     fn begin_edit(&mut self, alloc: Global, key: &Key) -> Result<Edit, FileFault>
         requires closed { edit_of key.now (edits self.old.cache) ≡ None }
@@ -88,12 +167,16 @@ impl<F: Files> DiskLru<F> {
         ensures ok { IsOk result → entries self.new.cache ≡ begun key.now (entries self.old.cache) }
         ensures empty { IsOk result
             → IfKnown self.new.cache.history (λ k. text_at k.held (edit_name key.now) ≡ []) }
-        ensures makes { IsOk result → Makes key.now (begin_steps key.now) self.old.cache self.new.cache }
-        ensures fails { IsErr result → Fails key.now (begin_steps key.now) self.old.cache self.new.cache }
-        ensures past { self.new.past ≡ after_call (steps_at self.old.cache.history (begin_steps key.now))
+        ensures makes { IsOk result → Makes key.now (begin_steps key.now) self.old.cache
+            self.new.cache }
+        ensures fails { IsErr result → Fails key.now (begin_steps key.now) self.old.cache
+            self.new.cache }
+        ensures past { self.new.past ≡ after_call
+            (steps_at self.old.cache.history (begin_steps key.now))
             (is_err result) self.old.past }
         ensures maximum { self.new.cache.maximum ≡ self.old.cache.maximum }
-        ensures cause { HasCause self.old.cache.faults self.new.cache.faults (result ≡ Err FileFault.Failed) }
+        ensures cause { HasCause self.old.cache.faults self.new.cache.faults
+            (result ≡ Err FileFault.Failed) }
     {
         let before = Snapshot::of(&self.cache);
         let result = self.cache.begin(alloc, key);
@@ -124,13 +207,16 @@ impl<F: Files> DiskLru<F> {
         ensures ok { IsOk result → entries self.new.cache ≡ begun key.now (entries self.old.cache) }
         ensures empty { IsOk result
             → IfKnown self.new.cache.history (λ k. text_at k.held (edit_name key.now) ≡ []) }
-        ensures makes { IsOk result → Makes key.now (begin_steps key.now) self.old.cache self.new.cache }
+        ensures makes { IsOk result → Makes key.now (begin_steps key.now) self.old.cache
+            self.new.cache }
         ensures fails { begin_failed result ≡ true
             → Fails key.now (begin_steps key.now) self.old.cache self.new.cache }
         ensures past { begin_acts result ≡ true
-            → self.new.past ≡ after_call (steps_at self.old.cache.history (begin_steps key.now)) (is_err result) self.old.past }
+            → self.new.past ≡ after_call (steps_at self.old.cache.history (begin_steps key.now))
+            (is_err result) self.old.past }
         ensures maximum { self.new.cache.maximum ≡ self.old.cache.maximum }
-        ensures cause { HasCause self.old.cache.faults self.new.cache.faults (result ≡ Err BeginRefused.Failed) }
+        ensures cause { HasCause self.old.cache.faults self.new.cache.faults
+            (result ≡ Err BeginRefused.Failed) }
     {
         if let Some(number) = self.cache.edit_of(key) {
             return Err(BeginRefused::Busy(number));
@@ -149,12 +235,16 @@ impl<F: Files> DiskLru<F> {
         ensures ok { IsOk result → (n : ℕ) → edit_at edit.key (entries self.old.cache) ≡ Some n
             → entries self.new.cache ≡ committed edit.key n (entries self.old.cache) }
         ensures edit { ClosesEdit edit.key self.old.cache self.new.cache }
-        ensures makes { IsOk result → Makes edit.key (commit_steps edit.key) self.old.cache self.new.cache }
-        ensures fails { IsErr result → Fails edit.key (commit_steps edit.key) self.old.cache self.new.cache }
-        ensures past { self.new.past ≡ after_call (steps_at self.old.cache.history (commit_steps edit.key))
+        ensures makes { IsOk result → Makes edit.key (commit_steps edit.key) self.old.cache
+            self.new.cache }
+        ensures fails { IsErr result → Fails edit.key (commit_steps edit.key) self.old.cache
+            self.new.cache }
+        ensures past { self.new.past ≡ after_call
+            (steps_at self.old.cache.history (commit_steps edit.key))
             (is_err result) self.old.past }
         ensures maximum { self.new.cache.maximum ≡ self.old.cache.maximum }
-        ensures cause { HasCause self.old.cache.faults self.new.cache.faults (result ≡ Err DiskFault.Failed) }
+        ensures cause { HasCause self.old.cache.faults self.new.cache.faults
+            (result ≡ Err DiskFault.Failed) }
     {
         let (key, number, _) = edit.into_parts();
         let before = Snapshot::of(&self.cache);
@@ -172,19 +262,23 @@ impl<F: Files> DiskLru<F> {
     /// Adds bytes to the edit. A call that fails closes it.
     pub fn write(&mut self, alloc: Global, edit: &mut Edit, bytes: &[u8]) -> Result<(), DiskFault>
         requires open { IsOpen edit.old self.old.cache }
-        requires small { (n : ℕ) → edit_at edit.old.key (entries self.old.cache) ≡ Some n → n + length bytes.now < 2 ^ 40 }
+        requires small { (n : ℕ) → edit_at edit.old.key (entries self.old.cache) ≡ Some n
+            → n + length bytes.now < 2 ^ 40 }
         ensures token { edit.new ≡ record edit.old { closed = is_err result } }
         ensures ok { IsOk result → (n : ℕ) → edit_at edit.old.key (entries self.old.cache) ≡ Some n
-            → entries self.new.cache ≡ grown_edit edit.old.key (n + length bytes.now) (entries self.old.cache) }
+            → entries self.new.cache ≡ grown_edit edit.old.key (n + length bytes.now)
+            (entries self.old.cache) }
         ensures edits { IsOk result → edits self.new.cache ≡ edits self.old.cache }
-        ensures text { IsOk result → IfKnown self.old.cache.history (λ h. IfKnown self.new.cache.history (λ k.
+        ensures text { IsOk result → IfKnown self.old.cache.history
+            (λ h. IfKnown self.new.cache.history (λ k.
             text_at k.held (edit_name edit.old.key) ≡ text_at h.held (edit_name edit.old.key) ++ bytes.now)) }
         ensures makes { IsOk result → Makes edit.old.key no_steps self.old.cache self.new.cache }
         ensures fails { IsErr result → Fails edit.old.key no_steps self.old.cache self.new.cache }
         ensures past { self.new.past ≡ after_call (steps_at self.old.cache.history no_steps)
             (is_err result) self.old.past }
         ensures maximum { self.new.cache.maximum ≡ self.old.cache.maximum }
-        ensures cause { HasCause self.old.cache.faults self.new.cache.faults (result ≡ Err DiskFault.Failed) }
+        ensures cause { HasCause self.old.cache.faults self.new.cache.faults
+            (result ≡ Err DiskFault.Failed) }
     {
         let key = *edit.key();
         let number = edit.number();
@@ -213,7 +307,8 @@ impl<F: Files> DiskLru<F> {
         ensures past { edit.closed ≡ false → self.new.past
             ≡ after_call (steps_at self.old.cache.history (abort_steps edit.key self.old.cache)) (is_err result) self.old.past }
         ensures maximum { self.new.cache.maximum ≡ self.old.cache.maximum }
-        ensures cause { HasCause self.old.cache.faults self.new.cache.faults (result ≡ Err DiskFault.Failed) }
+        ensures cause { HasCause self.old.cache.faults self.new.cache.faults
+            (result ≡ Err DiskFault.Failed) }
     {
         let (key, number, closed) = edit.into_parts();
         if closed {
@@ -237,11 +332,13 @@ impl<F: Files> DiskLru<F> {
         ensures ok { IsOk result → entries self.new.cache ≡ without key.now (entries self.old.cache) }
         ensures edit { ClosesEdit key.now self.old.cache self.new.cache }
         ensures makes { IsOk result → Makes key.now (drop_steps key.now) self.old.cache self.new.cache }
-        ensures fails { IsErr result → Fails key.now (drop_steps key.now) self.old.cache self.new.cache }
+        ensures fails { IsErr result → Fails key.now (drop_steps key.now) self.old.cache
+            self.new.cache }
         ensures past { self.new.past ≡ after_call (steps_at self.old.cache.history (drop_steps key.now))
             (is_err result) self.old.past }
         ensures maximum { self.new.cache.maximum ≡ self.old.cache.maximum }
-        ensures cause { HasCause self.old.cache.faults self.new.cache.faults (result ≡ Err FileFault.Failed) }
+        ensures cause { HasCause self.old.cache.faults self.new.cache.faults
+            (result ≡ Err FileFault.Failed) }
     {
         let before = Snapshot::of(&self.cache);
         let result = self.cache.remove(alloc, key);
@@ -261,15 +358,19 @@ impl<F: Files> DiskLru<F> {
             (edit_of key.now (edits self.old.cache) ≡ Some number) }
         ensures found { IfOk result (λ removed. removed ≡ is_known key.now (entries self.old.cache)) }
         ensures idle { remove_acts result ≡ false → self.new ≡ self.old }
-        ensures ok { result ≡ Ok true → entries self.new.cache ≡ without key.now (entries self.old.cache) }
+        ensures ok { result ≡ Ok true → entries self.new.cache ≡ without key.now
+            (entries self.old.cache) }
         ensures edits { remove_acts result ≡ true → ClosesEdit key.now self.old.cache self.new.cache }
-        ensures makes { result ≡ Ok true → Makes key.now (drop_steps key.now) self.old.cache self.new.cache }
+        ensures makes { result ≡ Ok true → Makes key.now (drop_steps key.now) self.old.cache
+            self.new.cache }
         ensures fails { remove_failed result ≡ true
             → Fails key.now (drop_steps key.now) self.old.cache self.new.cache }
         ensures past { remove_acts result ≡ true
-            → self.new.past ≡ after_call (steps_at self.old.cache.history (drop_steps key.now)) (is_err result) self.old.past }
+            → self.new.past ≡ after_call (steps_at self.old.cache.history (drop_steps key.now))
+            (is_err result) self.old.past }
         ensures maximum { self.new.cache.maximum ≡ self.old.cache.maximum }
-        ensures cause { HasCause self.old.cache.faults self.new.cache.faults (result ≡ Err RemoveRefused.Failed) }
+        ensures cause { HasCause self.old.cache.faults self.new.cache.faults
+            (result ≡ Err RemoveRefused.Failed) }
     {
         if let Some(number) = self.cache.edit_of(key) {
             return Err(RemoveRefused::Busy(number));
@@ -291,7 +392,8 @@ impl<F: Files> DiskLru<F> {
         ensures past { self.new.past ≡ after_call (steps_at self.old.cache.history (drop_steps key.now))
             (is_err result) self.old.past }
         ensures maximum { self.new.cache.maximum ≡ self.old.cache.maximum }
-        ensures cause { HasCause self.old.cache.faults self.new.cache.faults (result ≡ Err FileFault.Failed) }
+        ensures cause { HasCause self.old.cache.faults self.new.cache.faults
+            (result ≡ Err FileFault.Failed) }
     {
         let before = Snapshot::of(&self.cache);
         let result = self.cache.trim(alloc, key);
@@ -308,13 +410,16 @@ impl<F: Files> DiskLru<F> {
     /// are more than 16,384 keys. False comes exactly where neither holds, or all keys are under edit. An eviction that fails
     /// keeps its key, whose file may be gone.
     pub fn trim_one(&mut self, alloc: Global) -> Result<bool, DiskFault>
-        ensures over { IfOk result (λ gone. gone ≡ is_some (eldest_over self.old.cache.maximum self.old.cache.table.table)) }
-        ensures err { IsErr result → IsSome (eldest_over self.old.cache.maximum self.old.cache.table.table) }
+        ensures over { IfOk result (λ gone. gone ≡ is_some
+            (eldest_over self.old.cache.maximum self.old.cache.table.table)) }
+        ensures err { IsErr result → IsSome (eldest_over self.old.cache.maximum
+            self.old.cache.table.table) }
         ensures idle { trim_acts result ≡ false → self.new ≡ self.old }
         ensures key { IfSome (eldest_over self.old.cache.maximum self.old.cache.table.table) (λ key.
             Trims key result self.old self.new) }
         ensures maximum { self.new.cache.maximum ≡ self.old.cache.maximum }
-        ensures cause { HasCause self.old.cache.faults self.new.cache.faults (result ≡ Err DiskFault.Failed) }
+        ensures cause { HasCause self.old.cache.faults self.new.cache.faults
+            (result ≡ Err DiskFault.Failed) }
     {
         let Some(key) = self.cache.eldest_over() else {
             return Ok(false);
@@ -328,11 +433,14 @@ impl<F: Files> DiskLru<F> {
         ensures entries { entries self.new.cache ≡ entries self.old.cache }
         ensures edits { edits self.new.cache ≡ edits self.old.cache }
         ensures call { (key : List ℕ) → CallOn key no_steps no_steps self.old.cache self.new.cache }
-        ensures makes { IsOk result → (key : List ℕ) → Makes key no_steps self.old.cache self.new.cache }
+        ensures makes { IsOk result → (key : List ℕ)
+            → Makes key no_steps self.old.cache self.new.cache }
         ensures due { IsErr result → self.new.cache.due ≡ true }
-        ensures past { self.new.past ≡ after_call (steps_at self.old.cache.history no_steps) (is_err result) self.old.past }
+        ensures past { self.new.past ≡ after_call (steps_at self.old.cache.history no_steps)
+            (is_err result) self.old.past }
         ensures maximum { self.new.cache.maximum ≡ self.old.cache.maximum }
-        ensures cause { HasCause self.old.cache.faults self.new.cache.faults (result ≡ Err DiskFault.Failed) }
+        ensures cause { HasCause self.old.cache.faults self.new.cache.faults
+            (result ≡ Err DiskFault.Failed) }
     {
         let before = Snapshot::of(&self.cache);
         let result = self.cache.rebuild(alloc);

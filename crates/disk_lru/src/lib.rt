@@ -5,10 +5,12 @@
 mod cache;
 mod disk;
 mod edit;
+mod laws;
 mod past;
 mod refusals;
 mod start;
 
 pub use disk::DiskLru;
 pub use edit::Edit;
+pub use laws::entries_stay;
 pub use refusals::{BeginRefused, DiskFault, RemoveRefused, StartRefused};

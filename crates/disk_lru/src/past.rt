@@ -80,7 +80,8 @@ pub fn note<F: Files>(
     step: ListStep,
     failed: bool,
 )
-    ensures { past.new.value ≡ after_call (steps_at before.value.history (steps_of step before.value)) failed past.old.value }
+    ensures { past.new.value ≡ after_call (steps_at before.value.history (steps_of step before.value))
+        failed past.old.value }
 {
     update_snapshot::<_, _, CallMade>(
         past,
