@@ -2,6 +2,7 @@ pub use Rattle.bitmap_kind.specs.declared.bitmaps.Config
 pub use Rattle.bitmap_kind.specs.declared.bitmaps.Rule
 pub use Rattle.bitmap_kind.specs.declared.bitmaps.Transform
 pub mod ConfigLaws
+pub mod FileKey
 pub mod Key
 pub mod KeyLaws
 pub mod KeyBytes
