@@ -1,5 +1,6 @@
--- The address of a key, the bytes that stand for its choices in the texts of keys and entries, and the bytes by
--- which the disk cache tells keys apart. Their layout is this project's own, after Glide's `updateDiskCacheKey`.
+-- The address of a key, the bytes that stand for its choices in the texts of keys and entries, and the bytes
+-- by which the disk cache tells keys apart. Their layout is this project's own, after Glide's
+-- `updateDiskCacheKey`.
 use Rattle.std.specs.Prelude.{ℕ, List, [], ◌∷◌, ◌++◌, length, codes}
 use Rattle.std.specs.Int.{w32, to_le_bytes}
 use Rattle.bitmap_kind.specs.declared.bitmaps.Config.{Config}
