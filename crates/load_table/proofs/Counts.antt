@@ -11,7 +11,7 @@ use Rattle.load_table.specs.declared.loads.Settle.{Settle}
 use Rattle.load_table.specs.declared.loads.Settle.TheVariants as settles
 use Rattle.load_table.specs.Loads.{LoadName, load_cmp, Loads, waits_on, ready_on, state_of, settled, waiting, holders}
 use Rattle.load_table.specs.LoadLaws.{CountsOneMore, CountsOneLess, NoneWaits, OthersWait, HoldersJoin, OwnersKeep}
-use Rattle.load_table.proofs.Entries.{load_total, load_same}
+use Rattle.load_table.specs.LoadOrder.{load_total, load_same}
 
 -- ---- sums
 

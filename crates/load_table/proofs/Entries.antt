@@ -7,28 +7,21 @@ use Rattle.std.specs.Ordering.{nat_cmp, eq_by_cmp}
 use Rattle.std.specs.Cmp.{IsTotalOrder, nat_cmp_total}
 use Rattle.std.specs.FinMap.{FinMap, IsAntisymmetric, nat_cmp-IsAntisymmetric, empty, get, insert, remove, len, find, from_entries, get-from_entries, from_entries_push, get-empty, len-empty, len-insert, same_map, get-remove}
 use Rattle.std.specs.FinMap as map
-use Rattle.std.proofs.lemmas.Cmp.{on_total, then_total}
 use Rattle.std.proofs.lemmas.List.{at_drop_more, at_drop_all}
 use Rattle.std.proofs.lemmas.List.Sums.{sum_by-cons}
 use Rattle.std.proofs.lemmas.Option.{slice_get_past}
-use Rattle.std.proofs.lemmas.Map.Lookups.{exact_pairs}
 use Rattle.load_table.specs.declared.loads.LoadState.{LoadState}
 use Rattle.load_table.specs.declared.loads.Settle.{Settle}
 use Rattle.load_table.specs.declared.loads.LoadEntry.{LoadEntry}
 use Rattle.finite_maps.specs.Maps.{sum_over, total, map_values}
 use Rattle.finite_maps.specs.MapLaws.{not_Some, same_Some, key_itself, key_same, key_other, total-insert_new, get-map_values}
 use Rattle.load_table.specs.Loads.{LoadName, load_cmp, Loads, count_where, settled}
+use Rattle.load_table.specs.LoadOrder.{load_total, load_same}
 use Rattle.load_table.specs.LoadsView.{name_of, entry_of, loads_of, found_as, AreApart, settled_entry}
 
 both_none : {A : Type 0} (b : Bool) → cond {A = Option A} b None None ≡ None
 both_none true = refl
 both_none false = refl
-
-pub load_total : IsTotalOrder load_cmp
-load_total = then_total (on_total (λ (p : LoadName). p.0) nat_cmp_total) (on_total (λ (p : LoadName). p.1) nat_cmp_total)
-
-pub load_same : IsAntisymmetric load_cmp
-load_same = exact_pairs nat_cmp nat_cmp nat_cmp-IsAntisymmetric nat_cmp-IsAntisymmetric
 
 module _ {C : Type 0} where
   -- what is found among the entries is found in the map

@@ -1,4 +1,5 @@
 pub mod Loads
+pub mod LoadOrder
 pub mod LoadLaws
 pub mod LoadsView
 pub mod Worked

@@ -1,4 +1,4 @@
-use Rattle.load_table.proofs.Entries.{load_total, load_same}
+use Rattle.load_table.specs.LoadOrder.{load_total, load_same}
 use Rattle.load_table.proofs.laws.names_are_ordered.Goals as goal
 
 pub returns-clause-total : goal.returns-clause-total
