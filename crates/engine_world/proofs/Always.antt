@@ -1,14 +1,12 @@
 -- Each event keeps what is sound, the opening state is sound, and so is each that a legal history leads to.
-use Rattle.std.proofs.Common.{◌≡◌, ℕ, ◌<◌, true, false, cond, eqb, ltb, List, [], ◌∷◌, ◌++◌, length, Some, None, Option, refl, ap, sym, subst, ◌∙◌, arith, true≢false}
+use Rattle.std.proofs.Common.{◌≡◌, ℕ, ◌<◌, true, false, cond, eqb, ltb, List, [], ◌∷◌, ◌++◌, length, None, Option, refl, ap, sym, subst, ◌∙◌, arith, true≢false}
 use Rattle.std.specs.Prelude.{◌&&◌, slice_index_or, zero, suc}
 use Rattle.std.specs.Ordering.{nat_cmp}
 use Rattle.std.specs.Option.{is_some}
-use Rattle.std.specs.declared.cmp.Ordering.{Ordering}
-use Rattle.std.specs.FinMap.{get, empty, entries, get-empty, len-empty, len-entries}
+use Rattle.std.specs.FinMap.{get, empty, get-empty, len-empty}
 use Rattle.std.specs.FinSet as set
-use Rattle.std.proofs.lemmas.List.{nil_from_length, append_assoc, append-nil}
+use Rattle.std.proofs.lemmas.List.{append_assoc, append-nil}
 use Rattle.outside.specs.Content.{Contents}
-use Rattle.finite_maps.specs.Maps.{total, sum_over}
 use Rattle.finite_maps.specs.MapLaws.{not_Some}
 use Rattle.state_machine.specs.declared.entry.Entry.{Entry}
 use Rattle.state_machine.specs.Histories.{own}
@@ -24,6 +22,7 @@ use Rattle.engine_world.specs.Knowledge.{Knowledge, no_knowledge, updated, updat
 use Rattle.engine_world.specs.Permits.{Permits}
 use Rattle.engine_world.specs.Sound.{LoadsAgree, facts, KnowledgeAgrees, Sound}
 use Rattle.engine_world.specs.EngineMachine.{engine_machine}
+use Rattle.engine_world.specs.NumberLaws.{none_at, total-empty}
 use Rattle.engine_world.specs.Laws.{KeepsSound, AlwaysSound, AlwaysBalanced}
 use Rattle.engine_world.proofs.QuietEvents.{collect_law, look_law, read_law, is_cancelled_law, totals_law, close_law}
 use Rattle.engine_world.proofs.NextJobEvent.{next_job_law}
@@ -57,13 +56,6 @@ step_law events.Totals = totals_law
 
 -- ---- the opening state
 
-pub entries-empty : {K X : Type 0} (R : K → K → Ordering) → entries (empty {X = X} {R = R}) ≡ []
-entries-empty {X = X} R = nil_from_length (entries (empty {X = X} {R = R})) (sym (len-entries empty) ∙ len-empty R X)
-
-pub total-empty : {K X : Type 0} (R : K → K → Ordering) (f : K → X → ℕ) → total f (empty {X = X} {R = R}) ≡ 0
-unfolding total
-total-empty R f = ap (sum_over f) (entries-empty R)
-
 all_zero : (quotas : List ℕ) (who : ℕ) → slice_index_or (none_begun quotas) who 0 ≡ 0
 all_zero [] zero = refl
 all_zero [] (suc who) = refl
@@ -73,9 +65,6 @@ all_zero (q ∷ quotas) (suc who) = all_zero quotas who
 as_many : (quotas : List ℕ) → length (none_begun quotas) ≡ length quotas
 as_many [] = refl
 as_many (q ∷ quotas) = ap suc (as_many quotas)
-
-none_at : {X : Type 0} {A : Type 0} (q : ℕ) (x : X) → get (empty {X = X} {R = nat_cmp}) q ≡ Some x → A
-none_at q x e = absurd (not_Some (sym (get-empty nat_cmp q) ∙ e))
 
 pub opening-sound : (limits : Limits) (content : Option Contents) → Sound (opening limits content) (λ who. no_knowledge)
 opening-sound limits content =

@@ -13,9 +13,9 @@ use Rattle.engine_world.specs.Moves.{without}
 use Rattle.engine_world.specs.Balance.{out_count, held_count, totals, Balance}
 use Rattle.engine_world.specs.Knowledge.{Knowledge}
 use Rattle.engine_world.specs.Sound.{Sound}
-use Rattle.engine_world.proofs.Occurs.{occurrences-append, without_same, without_other, one_if_same}
+use Rattle.engine_world.specs.OccurrenceLaws.{occurrences-append, without_same, without_other, one_if_same}
+use Rattle.engine_world.specs.NumberLaws.{number_cases}
 use Rattle.engine_world.proofs.Counting.{CountsAdd}
-use Rattle.engine_world.proofs.Jobs.{number_cases}
 use Rattle.engine_world.proofs.KeySums.{stands_at, stands_once}
 
 -- ---- numbers below another, none of them twice, are no more than it

@@ -13,15 +13,15 @@ use Rattle.load_table.specs.Loads.{LoadName, load_cmp, settled}
 use Rattle.active_resources.specs.Actives.{Numbers}
 use Rattle.load_cause.specs.declared.causes.Cause.{Cause}
 use Rattle.load_table.specs.declared.loads.Settle.{Settle}
+use Rattle.load_table.specs.LoadOrder.{load_total, load_same}
 use Rattle.job_table.specs.declared.jobs.Job as table
 use Rattle.job_table.specs.Jobs as job_table
 use Rattle.engine_world.specs.Moves.{table_job}
 use Rattle.engine_world.specs.World.{LoadState, Loads, Job, Jobs, Resource, Resources}
+use Rattle.engine_world.specs.OccurrenceLaws.{find-passes, find-none, item_stands, stands_item}
+use Rattle.engine_world.specs.NumberLaws.{entries-empty}
 use Rattle.finite_maps.specs.Maps.{map_values}
-use Rattle.engine_world.proofs.Keys.{find-passes, find-none, item_stands, stands_item}
 use Rattle.finite_maps.specs.MapLaws.{key_itself, key_same, key_cases, get-insert_same, get-insert_other, get-map_values}
-use Rattle.engine_world.proofs.Orders.{load_total, load_same}
-use Rattle.engine_world.proofs.Always.{entries-empty}
 
 no_items : (xs : List ℕ) → ((q : ℕ) → list_any (eq_by_cmp nat_cmp q) xs ≡ false) → xs ≡ []
 no_items [] h = refl

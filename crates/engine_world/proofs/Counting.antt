@@ -15,7 +15,7 @@ use Rattle.engine_world.specs.declared.events.Lent.{Lent}
 use Rattle.engine_world.specs.World.{LoadState, Job, Resource, Counts, World}
 use Rattle.engine_world.specs.Moves.{active_of, cached_of, job_for, lend}
 use Rattle.engine_world.specs.Steps.{Outcome, quota_of, load_by_job, load_from_jobs, load_by_cache, load_by_active, load, release, Wanted, lent_as, TakeFrom, activate, resource_of, finish_kept, finish_cancelled, finish, Transition}
-use Rattle.engine_world.proofs.KeptByMoves.{Outlasts, released-keeps, take_back-keeps, next_job-keeps, trim-keeps}
+use Rattle.engine_world.specs.KeptByMoves.{Outlasts, released-keeps, take_back-keeps, next_job-keeps, trim-keeps}
 
 -- the sums that hold of the counts, and of the number of bitmaps that were made
 pub record CountsAdd (counts : Counts) (next : ℕ) : Type 0 where

@@ -1,6 +1,6 @@
 -- The events that end a job: Quit, Fail and Finish.
 use Rattle.std.proofs.Common.{◌≡◌, ◌≢◌, ℕ, ◌+◌, ◌<◌, ◌≤◌, Bool, true, false, eqb, ltb, List, [], ◌∷◌, map, Some, None, Option, refl, ap, sym, subst, ◌∙◌, inl, inr, arith, true≢false}
-use Rattle.std.specs.Prelude.{◌⊎◌, ◌&&◌, ◌||◌, not, sum_by}
+use Rattle.std.specs.Prelude.{◌⊎◌, ◌&&◌, not, sum_by}
 use Rattle.std.specs.Ordering.{nat_cmp, eq_by_cmp}
 use Rattle.std.specs.Cmp.{nat_cmp_total}
 use Rattle.std.specs.FinMap.{get, insert, remove, contains_key, nat_cmp-IsAntisymmetric}
@@ -26,13 +26,14 @@ use Rattle.engine_world.specs.Knowledge.{Knowledge, knowledge_with}
 use Rattle.engine_world.specs.Permits.{IsRunning, IsLent, IsResult, IsPicture}
 use Rattle.engine_world.specs.Sound.{IsCacheable, KeysApart, ActiveAre, Serves, AllServe, IsResource, KnowledgeAgrees, Sound}
 use Rattle.engine_world.specs.Laws.{KeepsSound}
+use Rattle.engine_world.specs.KeyedLaws.{has_key-found, has_key-there}
+use Rattle.engine_world.specs.OccurrenceLaws.{find-passes, find-none, item_stands, stands_item, one_if_same, one_if_other}
+use Rattle.engine_world.specs.NumberLaws.{number_cases, put_same, put_other, put_cases, gone_other, gone_found}
 use Rattle.engine_world.proofs.Parts.{whereabouts_of, facts_of}
 use Rattle.finite_maps.specs.MapLaws.{not_Some, same_Some, key_same, key_itself}
-use Rattle.engine_world.proofs.Keys.{and_left, and_right, and_both, has_key-found, has_key-there, find-passes, find-none, item_stands, stands_item}
-use Rattle.std.proofs.lemmas.Bool.{lt-ltb}
+use Rattle.std.proofs.lemmas.Bool.{lt-ltb, and_parts, and_from, or_cases}
 use Rattle.engine_world.proofs.Orders.{at_each_seat}
-use Rattle.engine_world.proofs.Occurs.{one_if_same, one_if_other}
-use Rattle.engine_world.proofs.Jobs.{number_cases, put_same, put_other, put_cases, gone_other, gone_found, jobs_gone, lent_gone, ResourceStays, resource_same, agree_stays}
+use Rattle.engine_world.proofs.Jobs.{jobs_gone, lent_gone, ResourceStays, resource_same, agree_stays}
 use Rattle.engine_world.proofs.Placing.{out_gone, out_at, places_less}
 use Rattle.engine_world.proofs.QuietEvents.{from_outcome}
 use Rattle.engine_world.proofs.TakeEvent.{Runs, runs, not_theirs, no_other}
@@ -154,10 +155,6 @@ fail_law j cause w z known who reply in_range s permits step =
 
 -- ---- Finish
 
-or_cases : (a b : Bool) → (a || b) ≡ true → (a ≡ true) ⊎ (b ≡ true)
-or_cases true b e = inl refl
-or_cases false b e = inr e
-
 pub set_insert_cases : (s : Numbers) (k q : ℕ) → set.contains (set.insert s k) q ≡ true → (q ≡ k) ⊎ (set.contains s q ≡ true)
 set_insert_cases s k q e = elim (or_cases (eq_by_cmp nat_cmp q k) (set.contains s q) (sym (set.contains-insert nat_cmp_total s k q) ∙ e)) [
   | inl is ↦ inl (key_same nat_cmp_total nat_cmp-IsAntisymmetric q k is)
@@ -167,7 +164,7 @@ set_insert_cases s k q e = elim (or_cases (eq_by_cmp nat_cmp q k) (set.contains 
 pub set_remove_found : (s : Numbers) (k q : ℕ) → set.contains (set.remove s k) q ≡ true → (q ≢ k) × (set.contains s q ≡ true)
 set_remove_found s k q e =
     let both : (not (eq_by_cmp nat_cmp q k) && set.contains s q) ≡ true = sym (set.contains-remove nat_cmp_total s k q) ∙ e in
-    (λ same. true≢false (sym (and_left _ _ both) ∙ ap not (ap (λ n. eq_by_cmp nat_cmp n k) same ∙ key_itself nat_cmp_total nat_cmp-IsAntisymmetric k)), and_right _ _ both)
+    (λ same. true≢false (sym (and_parts _ _ both).0 ∙ ap not (ap (λ n. eq_by_cmp nat_cmp n k) same ∙ key_itself nat_cmp_total nat_cmp-IsAntisymmetric k)), (and_parts _ _ both).1)
 
 -- what stays active when another of its key becomes so has another key
 pub replaced_apart : (resources : Resources) (active : Numbers) (key : Key) (q : ℕ) → ((r : ℕ) → set.contains active r ≡ true → IsCacheable resources r) → KeysApart resources (λ r. set.contains active r ≡ true)
@@ -253,7 +250,7 @@ finish_with w known who j bitmap f live cacheable active active_are =
           ])
           (λ q old at. elim (put_cases w.resources n resource q old at) [
             | inl h ↦
-                let is : is_held loads resources q ≡ true = and_both _ _ (ap is_some at) (lt-ltb 0 (holders q loads) (subst (λ c. 0 < holders c loads) (sym h.0) held)) in
+                let is : is_held loads resources q ≡ true = and_from _ _ (ap is_some at) (lt-ltb 0 (holders q loads) (subst (λ c. 0 < holders c loads) (sym h.0) held)) in
                 omega (arith, ap one_if is)
             | inr h ↦ omega (arith, s.places.kept q old h.1, ap one_if (held_other q h.0))
           ]) s.places;

@@ -13,9 +13,10 @@ use Rattle.engine_world.specs.World.{LoadState, Loads, Job, Jobs, Resources}
 use Rattle.engine_world.specs.Places.{one_if}
 use Rattle.engine_world.specs.Knowledge.{OwnLoad, Knowledge}
 use Rattle.engine_world.specs.Sound.{RefersTo, AllAwaited, LoadAgrees, LoadsAgree, KnowledgeAgrees}
+use Rattle.engine_world.specs.NumberLaws.{number_cases, gone_other, gone_found}
 use Rattle.engine_world.proofs.Parts.{facts_of}
 use Rattle.finite_maps.specs.MapLaws.{not_Some, same_Some, get-map_values, total-map_values, total-same, total-le}
-use Rattle.engine_world.proofs.Jobs.{number_cases, gone_other, gone_found, stays_gone, JobStays, ResourceStays}
+use Rattle.engine_world.proofs.Jobs.{stays_gone, JobStays, ResourceStays}
 
 -- ---- one load
 

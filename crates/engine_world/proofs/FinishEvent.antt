@@ -18,12 +18,13 @@ use Rattle.engine_world.specs.Steps.{replace, activate, finish_kept, finish_canc
 use Rattle.engine_world.specs.Knowledge.{Knowledge, knowledge_with}
 use Rattle.engine_world.specs.Sound.{IsCacheable, ActiveAre, KnowledgeAgrees, Sound}
 use Rattle.engine_world.specs.Laws.{KeepsSound}
+use Rattle.engine_world.specs.OccurrenceLaws.{one_if_same, one_if_other}
+use Rattle.engine_world.specs.NumberLaws.{put_same, put_other, gone_found}
 use Rattle.engine_world.proofs.Parts.{facts_of}
 use Rattle.finite_maps.specs.MapLaws.{same_Some}
 use Rattle.engine_world.proofs.Orders.{at_each_seat}
-use Rattle.engine_world.proofs.Occurs.{one_if_same, one_if_other}
 use Rattle.engine_world.proofs.PoolLaws.{pool_put_is, pool_put_number}
-use Rattle.engine_world.proofs.Jobs.{put_same, put_other, gone_found, jobs_gone, lent_gone}
+use Rattle.engine_world.proofs.Jobs.{jobs_gone, lent_gone}
 use Rattle.engine_world.proofs.Placing.{out_gone, places_less}
 use Rattle.engine_world.proofs.QuietEvents.{from_outcome}
 use Rattle.engine_world.proofs.TakeEvent.{Runs, runs}

@@ -16,7 +16,7 @@ use Rattle.engine_world.specs.World.{LoadState, Job, Resource, World, opening}
 use Rattle.engine_world.specs.Moves.{active_of, cached_of, job_for}
 use Rattle.engine_world.specs.Steps.{quota_of, load_by_job, load_from_jobs, load_by_cache, load_by_active, load, release, Wanted, lent_as, TakeFrom, activate, resource_of, finish_kept, finish_cancelled, finish, Transition}
 use Rattle.engine_world.specs.Laws.{KeepsOpening}
-use Rattle.engine_world.proofs.KeptByMoves.{Outlasts, released-keeps, lend-keeps, take_back-keeps, next_job-keeps, trim-keeps}
+use Rattle.engine_world.specs.KeptByMoves.{Outlasts, released-keeps, lend-keeps, take_back-keeps, next_job-keeps, trim-keeps}
 
 module _ (w : World) where
   -- A state has the limits and the content of this one.

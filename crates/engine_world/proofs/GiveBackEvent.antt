@@ -15,12 +15,13 @@ use Rattle.engine_world.specs.Knowledge.{OwnJob, Knowledge, job_without, knowled
 use Rattle.engine_world.specs.Permits.{IsRunning, IsAmongLent}
 use Rattle.engine_world.specs.Sound.{IsJob, AllServe, KnowledgeAgrees, Sound}
 use Rattle.engine_world.specs.Laws.{KeepsSound}
+use Rattle.engine_world.specs.OccurrenceLaws.{one_if_same, one_if_other, without_same, without_other}
+use Rattle.engine_world.specs.NumberLaws.{number_cases}
 use Rattle.engine_world.proofs.Parts.{facts_of}
 use Rattle.finite_maps.specs.MapLaws.{same_Some}
 use Rattle.engine_world.proofs.Orders.{at_each_seat}
-use Rattle.engine_world.proofs.Occurs.{one_if_same, one_if_other, without_same, without_other}
 use Rattle.engine_world.proofs.PoolLaws.{pool_put_is, pool_put_number}
-use Rattle.engine_world.proofs.Jobs.{number_cases, awaited_changed, jobs_changed, lent_changed, knows_other, knows_mine}
+use Rattle.engine_world.proofs.Jobs.{awaited_changed, jobs_changed, lent_changed, knows_other, knows_mine}
 use Rattle.engine_world.proofs.Placing.{out_changed, places_less}
 use Rattle.engine_world.proofs.QuietEvents.{from_outcome}
 use Rattle.engine_world.proofs.TakeEvent.{Runs, runs, not_theirs, no_other}

@@ -13,6 +13,7 @@ use Rattle.load_table.specs.declared.loads.LoadState.TheVariants.{Waiting, Ready
 use Rattle.load_table.specs.declared.loads.Settle.{Settle}
 use Rattle.load_table.specs.declared.loads.Settle.TheVariants as settles
 use Rattle.load_table.specs.Loads.{LoadName, load_cmp, settled, owned}
+use Rattle.load_table.specs.LoadOrder.{load_total, load_same}
 use Rattle.bitmap_pool.specs.Pool.{pool_pick}
 use Rattle.engine_world.specs.declared.events.Event.{Event}
 use Rattle.engine_world.specs.declared.events.Event.TheVariants as events
@@ -26,14 +27,13 @@ use Rattle.engine_world.specs.Knowledge.{Knowledge, knowledge_with}
 use Rattle.engine_world.specs.Permits.{IsPicture, Permits}
 use Rattle.engine_world.specs.Sound.{RefersTo, IsReady, Sound}
 use Rattle.engine_world.specs.Laws.{IsRelease, KeepsHolds, ShowsItsKey, ReadyShowsItsKey}
-use Rattle.engine_world.proofs.Orders.{load_total, load_same}
-use Rattle.engine_world.proofs.Occurs.{one_if_same}
-use Rattle.engine_world.proofs.Jobs.{gone_found, put_other}
 use Rattle.engine_world.proofs.Knowing.{known_there, there_known}
 use Rattle.engine_world.proofs.Loads.{next_is_new}
 use Rattle.engine_world.proofs.TakeEvent.{Runs, runs}
 use Rattle.engine_world.proofs.EndEvents.{out_is_fresh, Finished, out_counts}
-use Rattle.engine_world.proofs.KeptByMoves.{Outlasts, released-keeps, lend-keeps, take_back-keeps, next_job-keeps, trim-keeps}
+use Rattle.engine_world.specs.KeptByMoves.{Outlasts, released-keeps, lend-keeps, take_back-keeps, next_job-keeps, trim-keeps}
+use Rattle.engine_world.specs.OccurrenceLaws.{one_if_same}
+use Rattle.engine_world.specs.NumberLaws.{gone_found, put_other}
 use Rattle.engine_world.proofs.Always.{step_law}
 
 module _ (w : World) (name : LoadName) (r : ℕ) (at : get w.loads name ≡ Some (Ready r)) where

@@ -1,35 +1,14 @@
 -- What stays true of jobs, of what loads wait on, and of what seats know of their jobs, when a job changes or goes.
 use Rattle.std.proofs.Common.{◌≡◌, ◌≢◌, ℕ, ◌<◌, false, List, Some, None, Option, refl, ap, sym, subst, ◌∙◌, inl, inr}
-use Rattle.std.specs.Prelude.{◌⊎◌}
-use Rattle.std.specs.Ordering.{nat_cmp}
-use Rattle.std.specs.Cmp.{nat_cmp_total}
-use Rattle.std.specs.FinMap.{FinMap, get, insert, remove, nat_cmp-IsAntisymmetric}
+use Rattle.std.specs.FinMap.{get, insert, remove}
 use Rattle.load_table.specs.declared.loads.LoadState.TheVariants.{Waiting, Ready, Failed}
 use Rattle.load_table.specs.Loads.{waiting}
 use Rattle.engine_world.specs.World.{LoadState, Loads, Job, Jobs, Resource, Resources}
 use Rattle.engine_world.specs.Knowledge.{OwnLoad, OwnJob, Knowledge}
 use Rattle.engine_world.specs.Sound.{RefersTo, AllAwaited, IsJob, JobsAre, AllServe, LoadsAgree, JobAgrees, KnowledgeAgrees}
+use Rattle.engine_world.specs.NumberLaws.{put_cases, put_same, put_other, gone_other, gone_found, number_cases}
 use Rattle.engine_world.proofs.Parts.{facts_of}
-use Rattle.finite_maps.specs.MapLaws.{same_Some, key_cases, get-insert_same, get-insert_other, get-remove_other, insert_cases, remove_found}
-
--- of maps by numbers
-pub put_cases : {X : Type 0} (m : FinMap nat_cmp X) (k : ℕ) (v : X) (q : ℕ) (x : X) → get (insert m k v) q ≡ Some x → ((q ≡ k) × (v ≡ x)) ⊎ ((q ≢ k) × (get m q ≡ Some x))
-put_cases m k v q x e = insert_cases nat_cmp_total nat_cmp-IsAntisymmetric m k v q x e
-
-pub put_same : {X : Type 0} (m : FinMap nat_cmp X) (k : ℕ) (v : X) → get (insert m k v) k ≡ Some v
-put_same m k v = get-insert_same nat_cmp_total nat_cmp-IsAntisymmetric m k v
-
-pub put_other : {X : Type 0} (m : FinMap nat_cmp X) (k : ℕ) (v : X) (q : ℕ) → q ≢ k → get (insert m k v) q ≡ get m q
-put_other m k v q ne = get-insert_other nat_cmp_total nat_cmp-IsAntisymmetric m k v q ne
-
-pub gone_other : {X : Type 0} (m : FinMap nat_cmp X) (k : ℕ) (q : ℕ) → q ≢ k → get (remove m k) q ≡ get m q
-gone_other m k q ne = get-remove_other nat_cmp_total nat_cmp-IsAntisymmetric m k q ne
-
-pub gone_found : {X : Type 0} (m : FinMap nat_cmp X) (k : ℕ) (q : ℕ) (x : X) → get (remove m k) q ≡ Some x → (q ≢ k) × (get m q ≡ Some x)
-gone_found m k q x e = remove_found nat_cmp_total nat_cmp-IsAntisymmetric m k q x e
-
-pub number_cases : (q k : ℕ) → (q ≡ k) ⊎ (q ≢ k)
-number_cases q k = key_cases nat_cmp_total nat_cmp-IsAntisymmetric q k
+use Rattle.finite_maps.specs.MapLaws.{same_Some}
 
 -- ---- what loads refer to
 

@@ -11,8 +11,8 @@ use Rattle.std.proofs.lemmas.Bool.{eq-eqb, ne_eqb}
 use Rattle.finite_maps.specs.Maps.{sum_over, total}
 use Rattle.finite_maps.specs.MapLaws.{not_Some, key_itself, key_same, find_below, entries-remove, total-remove, remove_absent, total-le}
 use Rattle.engine_world.specs.Places.{one_if, occurrences}
-use Rattle.engine_world.proofs.Occurs.{one_if_same, one_if_other}
-use Rattle.engine_world.proofs.Jobs.{number_cases}
+use Rattle.engine_world.specs.OccurrenceLaws.{one_if_same, one_if_other}
+use Rattle.engine_world.specs.NumberLaws.{number_cases}
 
 -- ---- entries of a map
 

@@ -6,7 +6,6 @@ pub mod Knowing
 pub mod Jobs
 pub mod Placing
 pub mod Ends
-pub mod Keys
 pub mod Loads
 pub mod QuietEvents
 pub mod Tabled
@@ -18,7 +17,6 @@ pub mod FinishEvent
 pub mod LoadEvent
 pub mod Transit
 pub mod ReleaseEvent
-pub mod KeptByMoves
 pub mod Fixed
 pub mod Counting
 pub mod KeySums

@@ -18,6 +18,7 @@ use Rattle.load_table.specs.declared.loads.LoadState.TheVariants.{Waiting, Ready
 use Rattle.load_table.specs.declared.loads.Settle.{Settle}
 use Rattle.load_table.specs.declared.loads.Settle.TheVariants as settles
 use Rattle.load_table.specs.Loads.{LoadName, load_cmp, settled, waiting, holders, owned}
+use Rattle.load_table.specs.LoadOrder.{load_total, load_same}
 use Rattle.active_resources.specs.Actives.{Numbers}
 use Rattle.bitmap_pool.specs.Pool.{Group, pool_pick}
 use Rattle.engine_world.specs.declared.events.Event.{Event}
@@ -34,12 +35,11 @@ use Rattle.engine_world.specs.Permits.{load_limit}
 use Rattle.engine_world.specs.Sound.{IsJob, Sound}
 use Rattle.engine_world.specs.Rooms.{takes_left, WithinLimits}
 use Rattle.engine_world.specs.RoomLaws.{KeepsLimits, OpensWithinLimits}
-use Rattle.engine_world.proofs.Orders.{load_total, load_same}
-use Rattle.engine_world.proofs.Occurs.{one_if_same, one_if_other}
-use Rattle.engine_world.proofs.Jobs.{number_cases, put_cases, gone_found}
 use Rattle.engine_world.proofs.Loads.{next_is_new, live_added}
 use Rattle.engine_world.proofs.TakeEvent.{Runs, runs}
-use Rattle.engine_world.proofs.KeptByMoves.{OutlastsEvictions, let_go-evicts, trim-evicts}
+use Rattle.engine_world.specs.KeptByMoves.{OutlastsEvictions, let_go-evicts, trim-evicts}
+use Rattle.engine_world.specs.OccurrenceLaws.{one_if_same, one_if_other}
+use Rattle.engine_world.specs.NumberLaws.{number_cases, put_cases, gone_found}
 
 -- ---- jobs
 

@@ -7,7 +7,7 @@ use Rattle.std.specs.FinMap.{get, insert, nat_cmp-IsAntisymmetric}
 use Rattle.std.specs.FinSet as set
 use Rattle.std.proofs.lemmas.List.{length-set}
 use Rattle.std.proofs.lemmas.List.Sums.{sum_by-cons}
-use Rattle.std.proofs.lemmas.Bool.{lt-ltb}
+use Rattle.std.proofs.lemmas.Bool.{lt-ltb, and_parts, and_from}
 use Rattle.engine_world.specs.declared.events.Event.TheVariants as events
 use Rattle.engine_world.specs.declared.events.NotedReply.{NotedReply}
 use Rattle.engine_world.specs.declared.events.NotedReply.TheVariants as replies
@@ -24,14 +24,15 @@ use Rattle.engine_world.specs.Steps.{queued, Outcome, quota_of, load_starting, l
 use Rattle.engine_world.specs.Knowledge.{Knowledge, own_load, with_load, after_load, knowledge_with}
 use Rattle.engine_world.specs.Sound.{RefersTo, AllAwaited, IsJob, JobsAre, IsCacheable, ActiveAre, CachedAre, AllServe, IsReady, KnowledgeAgrees, Sound}
 use Rattle.engine_world.specs.Laws.{KeepsSound}
+use Rattle.engine_world.specs.OccurrenceLaws.{one_if_same, one_if_other, without_same, without_other, without-le, find-passes, find-none, item_stands, stands_item}
+use Rattle.engine_world.specs.KeyedLaws.{same_kind-is, same_kind-itself, has_key-found, has_key-there}
+use Rattle.engine_world.specs.NumberLaws.{number_cases, put_same, put_other, put_cases}
 use Rattle.engine_world.proofs.Parts.{whereabouts_of, facts_of}
 use Rattle.finite_maps.specs.MapLaws.{not_Some, same_Some, first_key-found, first_key-none}
 use Rattle.engine_world.proofs.Orders.{at_each_seat}
-use Rattle.engine_world.proofs.Occurs.{one_if_same, one_if_other, without_same, without_other, without-le}
 use Rattle.cache_key.specs.KeyLaws.{same_key-is, same_key-of}
-use Rattle.engine_world.proofs.Keys.{and_left, and_right, and_both, same_kind-is, same_kind-itself, has_key-found, has_key-there, find-passes, find-none, item_stands, stands_item}
 use Rattle.engine_world.proofs.Tabled.{table_job-found, table_job-there}
-use Rattle.engine_world.proofs.Jobs.{number_cases, put_same, put_other, put_cases, job_same, JobStays}
+use Rattle.engine_world.proofs.Jobs.{job_same, JobStays}
 use Rattle.engine_world.proofs.Placing.{out_new}
 use Rattle.engine_world.proofs.QuietEvents.{from_outcome, now_known}
 use Rattle.engine_world.proofs.EndEvents.{places_from, held_same, set_insert_cases}
@@ -128,7 +129,7 @@ module _ (w : World) (known : ℕ → Knowledge) (who : ℕ) (spec : LoadSpec) (
       ] refl in
       let other : (i : ℕ) (a : Job) → get w.jobs i ≡ Some a → i ≢ j = λ i a at same. not_Some (sym unused ∙ ap (get w.jobs) (sym same) ∙ at) in
       let apart : (i : ℕ) (a : Job) → get w.jobs i ≡ Some a → a.cancelled ≡ false → a.spec.key ≡ spec.key → a.spec.cached ≡ spec.cached → ⊥ = λ i a at live keys kinds.
-      let passes : job_table.serves spec.key spec.cached (table_job a) ≡ true = and_both _ _ (and_both _ _ (same_key-of _ _ keys) (ap (job_table.same_kind a.spec.cached) (sym kinds) ∙ same_kind-itself a.spec.cached)) (ap not live) in
+      let passes : job_table.serves spec.key spec.cached (table_job a) ≡ true = and_from _ _ (and_from _ _ (same_key-of _ _ keys) (ap (job_table.same_kind a.spec.cached) (sym kinds) ∙ same_kind-itself a.spec.cached)) (ap not live) in
       true≢false (sym passes ∙ first_key-none nat_cmp_total nat_cmp-IsAntisymmetric (λ k (b : table.Job). job_table.serves spec.key spec.cached b) (table_jobs w.jobs) i (table_job a) none (table_job-there w.jobs i a at)) in
       added (Waiting j) (replies.Started j) false jobs w.active w.cached (record w.counts { started = j + 1 }) refl
       (job, put_same w.jobs j job, refl, refl, refl) (λ e. cc)
@@ -182,9 +183,9 @@ module _ (w : World) (known : ℕ → Knowledge) (who : ℕ) (spec : LoadSpec) (
   by_job_keeps (Some j) e =
       let found = first_key-found nat_cmp_total nat_cmp-IsAntisymmetric (λ k (b : table.Job). job_table.serves spec.key spec.cached b) (table_jobs w.jobs) j e in
       let real = table_job-found w.jobs j found.0 found.1 in
-      let live : found.0.cancelled ≡ false = elim found.0.cancelled as (λ b. not b ≡ true → b ≡ false) [ true ↦ λ h. cc | false ↦ λ h. refl ] (and_right _ _ found.2) in
+      let live : found.0.cancelled ≡ false = elim found.0.cancelled as (λ b. not b ≡ true → b ≡ false) [ true ↦ λ h. cc | false ↦ λ h. refl ] (and_parts _ _ found.2).1 in
       added (Waiting j) (replies.Joined j) false w.jobs w.active w.cached (record w.counts { joined = w.counts.joined + 1 }) refl
-      (real.0, real.1, ap (λ (b : table.Job). b.cancelled) real.2 ∙ live, ap (λ (b : table.Job). b.spec.key) real.2 ∙ same_key-is _ _ (and_left _ _ (and_left _ _ found.2)), ap (λ (b : table.Job). b.spec.cached) real.2 ∙ same_kind-is _ _ (and_right _ _ (and_left _ _ found.2))) (λ h. cc) (job_same w.jobs) (seats_same w.jobs)
+      (real.0, real.1, ap (λ (b : table.Job). b.cancelled) real.2 ∙ live, ap (λ (b : table.Job). b.spec.key) real.2 ∙ same_key-is _ _ (and_parts _ _ (and_parts _ _ found.2).0).0, ap (λ (b : table.Job). b.spec.cached) real.2 ∙ same_kind-is _ _ (and_parts _ _ (and_parts _ _ found.2).0).1) (λ h. cc) (job_same w.jobs) (seats_same w.jobs)
       (places_from w.loads (loads_with (Waiting j)) w.jobs w.jobs w.resources w.resources w.cached w.cached w.pool w.pool w.next
       (λ b. omega (arith, ap one_if (held_as_before (Waiting j) (λ q. refl) b)))
       (λ r resource at. omega (arith, s.places.kept r resource at, ap one_if (held_as_before (Waiting j) (λ q. refl) r))) s.places)
@@ -201,7 +202,7 @@ module _ (w : World) (known : ℕ → Knowledge) (who : ℕ) (spec : LoadSpec) (
     | inl same ↦
         let one : one_if (eqb r q) ≡ 1 = ap (λ n. one_if (eqb r n)) same ∙ one_if_same r in
         let some : 0 < holders q (loads_with (Ready r)) = omega (arith, holders_added w.loads (who, mine) (Ready r) new q, one) in
-        let held : is_held (loads_with (Ready r)) w.resources q ≡ true = and_both _ _ (ap is_some (ap (get w.resources) same ∙ at)) (lt-ltb 0 _ some) in
+        let held : is_held (loads_with (Ready r)) w.resources q ≡ true = and_from _ _ (ap is_some (ap (get w.resources) same ∙ at)) (lt-ltb 0 _ some) in
         elim (eqb r q) as (λ t. one_if t ≡ 1 → is_held (loads_with (Ready r)) w.resources q ≡ cond t true (is_held w.loads w.resources q)) [ true ↦ λ h. held | false ↦ λ h. absurd (omega (arith, h)) ] one
     | inr ne ↦
         let none : one_if (eqb r q) ≡ 0 = one_if_other r q (λ e. ne (sym e)) in
@@ -271,7 +272,7 @@ module _ (w : World) (known : ℕ → Knowledge) (who : ℕ) (spec : LoadSpec) (
       let found = find-passes (has_key w.resources key) (set.items w.active) r e in
       let there = has_key-found w.resources key r found.0 in
       let old = s.active.each r (stands_item w.active r found.1) in
-      let was : is_held w.loads w.resources r ≡ true = and_both _ _ (ap is_some there.1) (lt-ltb 0 _ old.1) in
+      let was : is_held w.loads w.resources r ≡ true = and_from _ _ (ap is_some there.1) (lt-ltb 0 _ old.1) in
       let held : (q : ℕ) → is_held (loads_with (Ready r)) w.resources q ≡ is_held w.loads w.resources q = λ q. gains r there.0 there.1 q ∙ elim (number_cases q r) [
         | inl same ↦ elim (eqb r q) as (λ t. cond t true (is_held w.loads w.resources q) ≡ is_held w.loads w.resources q) [ true ↦ sym (ap (is_held w.loads w.resources) same ∙ was) | false ↦ refl ]
         | inr ne ↦ elim (eqb r q) as (λ t. one_if t ≡ 0 → cond t true (is_held w.loads w.resources q) ≡ is_held w.loads w.resources q) [ true ↦ λ h. absurd (omega (arith, h)) | false ↦ λ h. refl ] (one_if_other r q (λ h. ne (sym h)))

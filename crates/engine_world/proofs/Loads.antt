@@ -7,15 +7,16 @@ use Rattle.std.specs.FinMap.{get, insert, len, len-insert}
 use Rattle.std.proofs.lemmas.List.{get_or-set_same, get_or-set_other}
 use Rattle.cache_key.specs.declared.load_spec.LoadSpec.{LoadSpec}
 use Rattle.load_table.specs.Loads.{LoadName, waits_on, ready_on, waiting, holders, owned}
+use Rattle.load_table.specs.LoadOrder.{load_total, load_same}
 use Rattle.engine_world.specs.World.{LoadState, Loads, Job, Jobs, Resources}
 use Rattle.engine_world.specs.Places.{one_if}
 use Rattle.engine_world.specs.Knowledge.{OwnLoad, OwnJob, Knowledge, own_load, with_load}
 use Rattle.engine_world.specs.Sound.{RefersTo, IsReady, LoadsAgree, JobAgrees, KnowledgeAgrees}
+use Rattle.engine_world.specs.OccurrenceLaws.{one_if_same, one_if_other}
+use Rattle.engine_world.specs.NumberLaws.{number_cases, put_same, put_other, put_cases}
 use Rattle.engine_world.proofs.Parts.{facts_of}
 use Rattle.finite_maps.specs.MapLaws.{not_Some, get-insert_same, get-insert_other, total-insert_new}
-use Rattle.engine_world.proofs.Orders.{load_total, load_same}
-use Rattle.engine_world.proofs.Occurs.{one_if_same, one_if_other}
-use Rattle.engine_world.proofs.Jobs.{number_cases, put_same, put_other, put_cases, agree_stays, resource_same, JobStays}
+use Rattle.engine_world.proofs.Jobs.{agree_stays, resource_same, JobStays}
 use Rattle.engine_world.proofs.Knowing.{there_known, agrees}
 
 -- Jobs on seats are as they were.

@@ -8,7 +8,8 @@ use Rattle.engine_world.specs.Places.{occurrences}
 use Rattle.engine_world.specs.Moves.{has_key}
 use Rattle.engine_world.specs.Sound.{KeysApart}
 use Rattle.engine_world.specs.Laws.{FindsActive, FindsCached}
-use Rattle.engine_world.proofs.Keys.{has_key-found, find-passes, find-none, item_stands, stands_item}
+use Rattle.engine_world.specs.KeyedLaws.{has_key-found}
+use Rattle.engine_world.specs.OccurrenceLaws.{find-passes, find-none, item_stands, stands_item}
 
 module _ (resources : Resources) (key : Key) (numbers : List ℕ) (apart : KeysApart resources (λ r. 0 < occurrences r numbers)) where
   found_only : (r : ℕ) → 0 < occurrences r numbers → has_key resources key r ≡ true → find (has_key resources key) numbers ≡ Some r

@@ -1,9 +1,10 @@
 -- The event NextJob.
-use Rattle.std.proofs.Common.{◌≡◌, ℕ, ◌≤◌, Bool, true, false, cond, List, [], ◌∷◌, length, Some, None, Option, refl, ap, sym, subst, ◌∙◌, inl, inr, arith}
-use Rattle.std.specs.Prelude.{◌⊎◌, ◌&&◌}
+use Rattle.std.proofs.Common.{◌≡◌, ℕ, ◌≤◌, true, false, cond, List, [], ◌∷◌, length, Some, None, Option, refl, ap, sym, subst, ◌∙◌, inl, inr, arith}
+use Rattle.std.specs.Prelude.{◌⊎◌}
 use Rattle.std.specs.Cmp.{nat_cmp_total}
 use Rattle.std.specs.FinMap.{get, insert, nat_cmp-IsAntisymmetric}
 use Rattle.std.specs.Option.{is_none}
+use Rattle.std.proofs.lemmas.Bool.{and_parts}
 use Rattle.cache_key.specs.declared.load_spec.LoadSpec.{LoadSpec}
 use Rattle.cache_key.specs.declared.load_spec.Priority.{Priority}
 use Rattle.cache_key.specs.declared.load_spec.Priority.TheVariants.{Immediate, High, Normal, Low}
@@ -26,10 +27,6 @@ use Rattle.engine_world.proofs.Jobs.{awaited_changed, jobs_changed, lent_changed
 use Rattle.engine_world.proofs.Placing.{out_changed, places_less}
 use Rattle.engine_world.proofs.QuietEvents.{from_outcome, now_known}
 
-and_left : (a b : Bool) → (a && b) ≡ true → a ≡ true
-and_left true b e = refl
-and_left false b e = e
-
 none_is : {A : Type 0} (o : Option A) → is_none o ≡ true → o ≡ None
 none_is None e = refl
 none_is (Some a) e = cc
@@ -47,7 +44,7 @@ queued_at-found : (jobs : Jobs) (p : Priority) (j : ℕ) → job_table.queued_at
 queued_at-found jobs p j is =
     let found = first_key-found nat_cmp_total nat_cmp-IsAntisymmetric (λ i (job : table.Job). job_table.is_queued_at p job) (table_jobs jobs) j is in
     let real = table_job-found jobs j found.0 found.1 in
-    (real.0, real.1, ap (λ (job : table.Job). job.seat) real.2 ∙ none_is _ (and_left _ _ found.2))
+    (real.0, real.1, ap (λ (job : table.Job). job.seat) real.2 ∙ none_is _ (and_parts _ _ found.2).0)
 
 next_queued-found : (jobs : Jobs) (j : ℕ) → next_queued jobs ≡ Some j → (job : Job) × (get jobs j ≡ Some job) × (job.seat ≡ None)
 next_queued-found jobs j is = elim (or_else-found (job_table.queued_at Immediate (table_jobs jobs)) _ j is) [

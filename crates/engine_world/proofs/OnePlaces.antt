@@ -18,9 +18,10 @@ use Rattle.engine_world.specs.Steps.{Wanted, lent_as, TakeFrom}
 use Rattle.engine_world.specs.Knowledge.{Knowledge}
 use Rattle.engine_world.specs.Sound.{Sound}
 use Rattle.engine_world.specs.Laws.{HasOnePlace, OnlyMadeHasPlace, IsFree, TakesFree, TakesAnother}
-use Rattle.engine_world.proofs.Occurs.{found_at, one_if_same}
+use Rattle.engine_world.specs.OccurrenceLaws.{one_if_same}
+use Rattle.engine_world.specs.NumberLaws.{number_cases, gone_other}
+use Rattle.engine_world.proofs.Occurs.{found_at}
 use Rattle.engine_world.proofs.PoolLaws.{pick_number}
-use Rattle.engine_world.proofs.Jobs.{number_cases, gone_other}
 use Rattle.engine_world.proofs.Placing.{out_gone, out_at}
 
 -- ---- a sum that is not 0 has an entry that is not

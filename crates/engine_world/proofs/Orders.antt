@@ -1,21 +1,9 @@
--- The two orders of keys: of numbers, and of loads by owner and number. And a seat's knowledge after an entry.
+-- A seat's knowledge after an entry.
 use Rattle.std.proofs.Common.{◌≡◌, ◌≢◌, ℕ, true, false, cond, eqb, refl, sym, subst}
-use Rattle.std.specs.Ordering.{nat_cmp}
-use Rattle.std.specs.Cmp.{IsTotalOrder, nat_cmp_total}
-use Rattle.std.specs.FinMap.{IsAntisymmetric, nat_cmp-IsAntisymmetric}
-use Rattle.std.proofs.lemmas.Cmp.{on_total, then_total}
-use Rattle.std.proofs.lemmas.Map.Lookups.{exact_pairs}
 use Rattle.std.proofs.lemmas.Bool.{eqb-true, eqb-false}
 use Rattle.engine_world.specs.declared.events.Event.{Event}
 use Rattle.engine_world.specs.declared.events.NotedReply.{NotedReply}
-use Rattle.load_table.specs.Loads.{LoadName, load_cmp}
 use Rattle.engine_world.specs.Knowledge.{Knowledge, updated, knowledge_with}
-
-pub load_total : IsTotalOrder load_cmp
-load_total = then_total (on_total (λ (p : LoadName). p.0) nat_cmp_total) (on_total (λ (p : LoadName). p.1) nat_cmp_total)
-
-pub load_same : IsAntisymmetric load_cmp
-load_same = exact_pairs nat_cmp nat_cmp nat_cmp-IsAntisymmetric nat_cmp-IsAntisymmetric
 
 -- what holds of each seat's knowledge, where it stays for the others and is so for the caller
 pub at_each_seat : (P : ℕ → Knowledge → Type 0) (known : ℕ → Knowledge) (who : ℕ) (event : Event) (reply : NotedReply)

@@ -3,7 +3,7 @@ use Rattle.std.proofs.Common.{◌≡◌, ◌≢◌, ℕ, ◌+◌, ◌-◌, ◌*�
 use Rattle.std.specs.Prelude.{not, filter, slice_get, ◌&&◌, ◌||◌, unwrap_or}
 use Rattle.std.specs.List.{list_any}
 use Rattle.std.proofs.lemmas.List.{length-take, length-append, nil_from_length}
-use Rattle.std.proofs.lemmas.Bool.{eqb-true, eqb-false, eq-eqb, ltb-true, ltb-false, leb-true}
+use Rattle.std.proofs.lemmas.Bool.{eqb-true, eqb-false, eq-eqb, ltb-true, ltb-false, leb-true, and_parts, or_parts, or_from}
 use Rattle.bitmap_kind.specs.declared.bitmaps.Config.{Config}
 use Rattle.bitmap_kind.specs.declared.bitmaps.Config.TheVariants.{Argb8888, Rgb565, Alpha8}
 use Rattle.cache_key.specs.Key.{same_config}
@@ -12,28 +12,9 @@ use Rattle.fitting.specs.Prefixes.{fitting-le-length}
 use Rattle.bitmap_pool.specs.Pool.{Group, pool_size, pool_count, pooled, is_group, has_group, is_empty, pool_within, pool_trim, without_last, with_room, with_room_for, add_last, pool_put, least_with, least_size, serving_size, items_of, others_of, pick_at}
 use Rattle.engine_world.specs.Places.{one_if, occurrences}
 use Rattle.engine_world.specs.Sound.{GroupsApart, PoolIs}
+use Rattle.engine_world.specs.OccurrenceLaws.{occurrences-append}
 use Rattle.finite_maps.specs.MapLaws.{not_Some, same_Some}
-use Rattle.engine_world.proofs.Occurs.{occurrences-append, occurrences-take, occurrences-last, found_at}
-
-and_left : (a b : Bool) → (a && b) ≡ true → a ≡ true
-and_left true b e = refl
-and_left false b e = e
-
-and_right : (a b : Bool) → (a && b) ≡ true → b ≡ true
-and_right true b e = e
-and_right false b e = cc
-
-or_left : (a b : Bool) → (a || b) ≡ false → a ≡ false
-or_left true b e = cc
-or_left false b e = refl
-
-or_right : (a b : Bool) → (a || b) ≡ false → b ≡ false
-or_right true b e = cc
-or_right false b e = e
-
-both_false : (a b : Bool) → a ≡ false → b ≡ false → (a || b) ≡ false
-both_false true b e f = e
-both_false false b e f = f
+use Rattle.engine_world.proofs.Occurs.{occurrences-take, occurrences-last, found_at}
 
 times-le : (s n m : ℕ) → n ≤ m → s * n ≤ s * m
 times-le s n m h = grind arith
@@ -45,7 +26,7 @@ pub fitting_room : (s room slots : ℕ) (xs : List ℕ) → s * fitting (λ _. s
 fitting_room s room slots [] = omega arith
 fitting_room s room slots (x ∷ xs) = elim (ltb 0 slots && leb s room) as (λ b. (ltb 0 slots && leb s room) ≡ b → s * cond b (1 + fitting (λ _. s) (room - s) (slots - 1) xs) 0 ≤ room) [
   | true ↦ λ e.
-      let fits : s ≤ room = leb-true s room (and_right _ _ e) in
+      let fits : s ≤ room = leb-true s room (and_parts _ _ e).1 in
       let rest : s * fitting (λ _. s) (room - s) (slots - 1) xs ≤ room - s = fitting_room s (room - s) (slots - 1) xs in
       omega (arith, fits, rest)
   | false ↦ λ e. omega arith
@@ -55,7 +36,7 @@ pub fitting_slots : (s room slots : ℕ) (xs : List ℕ) → fitting (λ _. s) r
 fitting_slots s room slots [] = omega arith
 fitting_slots s room slots (x ∷ xs) = elim (ltb 0 slots && leb s room) as (λ b. (ltb 0 slots && leb s room) ≡ b → cond b (1 + fitting (λ _. s) (room - s) (slots - 1) xs) 0 ≤ slots) [
   | true ↦ λ e.
-      let some : 0 < slots = ltb-true 0 slots (and_left _ _ e) in
+      let some : 0 < slots = ltb-true 0 slots (and_parts _ _ e).0 in
       let rest : fitting (λ _. s) (room - s) (slots - 1) xs ≤ slots - 1 = fitting_slots s (room - s) (slots - 1) xs in
       omega (arith, some, rest)
   | false ↦ λ e. omega arith
@@ -144,16 +125,16 @@ module _ (s : ℕ) (c : Config) where
   has-within room slots [] e = refl
   has-within room slots (g ∷ gs) e =
       elim (eqb (fitting (λ _. g.size) room slots g.items) (length g.items)) as (λ t. has_group s c (cond t (g ∷ pool_within (room - g.size * length g.items) (slots - length g.items) gs) (record g { items = take (fitting (λ _. g.size) room slots g.items) g.items } ∷ [])) ≡ false) [
-        | true ↦ both_false _ _ (or_left _ _ e) (has-within (room - g.size * length g.items) (slots - length g.items) gs (or_right _ _ e))
-        | false ↦ both_false (is_group s c g) false (or_left _ _ e) refl
+        | true ↦ or_from _ _ (or_parts _ _ e).0 (has-within (room - g.size * length g.items) (slots - length g.items) gs (or_parts _ _ e).1)
+        | false ↦ or_from (is_group s c g) false (or_parts _ _ e).0 refl
       ]
 
   has-without_empty : (gs : List (Group ℕ)) → has_group s c gs ≡ false → has_group s c (without_last is_empty gs) ≡ false
   has-without_empty [] e = refl
   has-without_empty (g ∷ gs) e =
       elim (list_any is_empty gs) as (λ t. has_group s c (cond t (g ∷ without_last is_empty gs) (cond (is_empty g) gs (g ∷ gs))) ≡ false) [
-        | true ↦ both_false _ _ (or_left _ _ e) (has-without_empty gs (or_right _ _ e))
-        | false ↦ elim (is_empty g) as (λ t. has_group s c (cond t gs (g ∷ gs)) ≡ false) [ true ↦ or_right _ _ e | false ↦ e ]
+        | true ↦ or_from _ _ (or_parts _ _ e).0 (has-without_empty gs (or_parts _ _ e).1)
+        | false ↦ elim (is_empty g) as (λ t. has_group s c (cond t gs (g ∷ gs)) ≡ false) [ true ↦ (or_parts _ _ e).1 | false ↦ e ]
       ]
 
   has-with_room : (gs : List (Group ℕ)) → has_group s c gs ≡ false → has_group s c (with_room gs) ≡ false
@@ -162,15 +143,15 @@ module _ (s : ℕ) (c : Config) where
   has-filter : (p : Group ℕ → Bool) (gs : List (Group ℕ)) → has_group s c gs ≡ false → has_group s c (filter p gs) ≡ false
   has-filter p [] e = refl
   has-filter p (g ∷ gs) e = elim (p g) as (λ t. has_group s c (cond t (g ∷ filter p gs) (filter p gs)) ≡ false) [
-    | true ↦ both_false _ _ (or_left _ _ e) (has-filter p gs (or_right _ _ e))
-    | false ↦ has-filter p gs (or_right _ _ e)
+    | true ↦ or_from _ _ (or_parts _ _ e).0 (has-filter p gs (or_parts _ _ e).1)
+    | false ↦ has-filter p gs (or_parts _ _ e).1
   ]
 
   has-others : (gs : List (Group ℕ)) → has_group s c (others_of s c gs) ≡ false
   has-others [] = refl
   has-others (g ∷ gs) = elim (is_group s c g) as (λ t. is_group s c g ≡ t → has_group s c (cond (not t) (g ∷ others_of s c gs) (others_of s c gs)) ≡ false) [
     | true ↦ λ e. has-others gs
-    | false ↦ λ e. both_false _ _ e (has-others gs)
+    | false ↦ λ e. or_from _ _ e (has-others gs)
   ] refl
 
 apart-within : (room slots : ℕ) (gs : List (Group ℕ)) → GroupsApart gs → GroupsApart (pool_within room slots gs)
@@ -204,10 +185,10 @@ apart-filter p (g ∷ gs) h = elim (p g) as (λ t. GroupsApart (cond t (g ∷ fi
 
 module _ (s : ℕ) (c : Config) (x : ℕ) where
   has-add_last : (t : ℕ) (d : Config) (gs : List (Group ℕ)) → (eqb s t && same_config c d) ≡ false → has_group t d gs ≡ false → has_group t d (add_last s c x gs) ≡ false
-  has-add_last t d [] ne e = both_false _ _ ne refl
+  has-add_last t d [] ne e = or_from _ _ ne refl
   has-add_last t d (g ∷ gs) ne e = elim (is_group s c g) as (λ u. has_group t d (cond u (record g { items = g.items ++ x ∷ [] } ∷ gs) (g ∷ add_last s c x gs)) ≡ false) [
     | true ↦ e
-    | false ↦ both_false _ _ (or_left _ _ e) (has-add_last t d gs ne (or_right _ _ e))
+    | false ↦ or_from _ _ (or_parts _ _ e).0 (has-add_last t d gs ne (or_parts _ _ e).1)
   ]
 
   apart-add_last : (gs : List (Group ℕ)) → GroupsApart gs → GroupsApart (add_last s c x gs)
@@ -244,8 +225,8 @@ module _ (s : ℕ) (c : Config) (x : ℕ) where
 none_empty : (gs : List (Group ℕ)) → list_any is_empty gs ≡ false → length gs ≤ pool_count gs
 none_empty [] e = omega arith
 none_empty (g ∷ gs) e =
-    let some : length g.items ≢ 0 = eqb-false (length g.items) 0 (or_left _ _ e) in
-    let rest : length gs ≤ pool_count gs = none_empty gs (or_right _ _ e) in
+    let some : length g.items ≢ 0 = eqb-false (length g.items) 0 (or_parts _ _ e).0 in
+    let rest : length gs ≤ pool_count gs = none_empty gs (or_parts _ _ e).1 in
     omega (arith, some, rest)
 
 shorter : (gs : List (Group ℕ)) → list_any is_empty gs ≡ true → length (without_last is_empty gs) + 1 ≡ length gs
@@ -370,7 +351,7 @@ parts s c b (g ∷ gs) =
     let here : occurrences b (pooled (g ∷ gs)) ≡ occurrences b g.items + occurrences b (pooled gs) = occurrences-append b g.items (pooled gs) in
     elim (is_group s c g) as (λ t. is_group s c g ≡ t → Parts s b (g ∷ gs) (cond t (g ∷ ps) ps) (cond (not t) (g ∷ os) os) (t || has_group s c gs)) [
       | true ↦ λ e.
-          let same : g.size ≡ s = eqb-true g.size s (and_left _ _ e) in
+          let same : g.size ≡ s = eqb-true g.size s (and_parts _ _ e).0 in
           let bytes : g.size * length g.items ≡ s * length g.items = ap (λ n. n * length g.items) same in
           let long : length (pooled (g ∷ ps)) ≡ length g.items + length (pooled ps) = length-append g.items (pooled ps) in
           let all_bytes : s * length (pooled (g ∷ ps)) ≡ s * length g.items + s * length (pooled ps) = ap (λ n. s * n) long ∙ split_sum s _ _ in
@@ -425,8 +406,8 @@ least_size-within c low high n (g ∷ gs) e =
     elim (same_config g.config c && not (is_empty g) && leb low g.size && leb g.size high) as (λ t. (same_config g.config c && not (is_empty g) && leb low g.size && leb g.size high) ≡ t
     → cond t (Some (least_with g.size (least_size c low high gs))) (least_size c low high gs) ≡ Some n → (low ≤ n) × (n ≤ high)) [
       | true ↦ λ is e.
-          let above : low ≤ g.size = leb-true _ _ (and_right _ _ (and_left _ _ is)) in
-          let below : g.size ≤ high = leb-true _ _ (and_right _ _ is) in
+          let above : low ≤ g.size = leb-true _ _ (and_parts _ _ (and_parts _ _ is).0).1 in
+          let below : g.size ≤ high = leb-true _ _ (and_parts _ _ is).1 in
           let here : least_with g.size (least_size c low high gs) ≡ n = same_Some _ _ e in
           elim (least_size c low high gs) as (λ m. least_size c low high gs ≡ m → least_with g.size m ≡ n → (low ≤ n) × (n ≤ high)) [
             | None ↦ λ f at. (omega (arith, above, at), omega (arith, below, at))

@@ -5,13 +5,14 @@ use Rattle.std.specs.Option.{is_some, is_none}
 use Rattle.std.specs.Cmp.{nat_cmp_total}
 use Rattle.std.specs.FinMap.{get, insert, remove, len, len-remove, nat_cmp-IsAntisymmetric}
 use Rattle.std.specs.FinSet as set
-use Rattle.std.proofs.lemmas.Bool.{lt-ltb, eqb-true, eqb-false}
+use Rattle.std.proofs.lemmas.Bool.{lt-ltb, eqb-true, eqb-false, and_from}
 use Rattle.engine_world.specs.declared.events.Event.TheVariants as events
 use Rattle.engine_world.specs.declared.events.NotedReply.TheVariants as replies
 use Rattle.load_cause.specs.declared.causes.Cause.{Cause}
 use Rattle.bitmap_pool.specs.Pool.{pool_trim}
 use Rattle.load_table.specs.declared.loads.LoadState.TheVariants.{Waiting, Ready, Failed}
 use Rattle.load_table.specs.Loads.{LoadName, waits_on, ready_on, waiting, holders, owned}
+use Rattle.load_table.specs.LoadOrder.{load_total, load_same}
 use Rattle.engine_world.specs.World.{LoadState, Loads, Job, Jobs, World}
 use Rattle.engine_world.specs.Places.{one_if, is_held, times_out}
 use Rattle.engine_world.specs.Moves.{shrink_cache, retire, let_go, cancel_job, leave_job, trim_to}
@@ -19,14 +20,14 @@ use Rattle.engine_world.specs.Steps.{release, released, trim}
 use Rattle.engine_world.specs.Knowledge.{OwnLoad, OwnJob, Knowledge, knowledge_with}
 use Rattle.engine_world.specs.Sound.{RefersTo, AllAwaited, IsJob, JobsAre, AllServe, LoadsAgree, JobAgrees, facts, KnowledgeAgrees, Sound}
 use Rattle.engine_world.specs.Laws.{KeepsSound}
+use Rattle.engine_world.specs.OccurrenceLaws.{one_if_same, one_if_other}
+use Rattle.engine_world.specs.NumberLaws.{number_cases, put_same, put_other, put_cases, gone_other, gone_found}
 use Rattle.engine_world.proofs.Parts.{facts_of}
 use Rattle.finite_maps.specs.MapLaws.{not_Some, same_Some, get-remove_same, get-remove_other, total-remove, le-total}
-use Rattle.engine_world.proofs.Orders.{load_total, load_same, at_each_seat}
-use Rattle.engine_world.proofs.Occurs.{one_if_same, one_if_other}
+use Rattle.engine_world.proofs.Orders.{at_each_seat}
 use Rattle.engine_world.proofs.PoolLaws.{pool_trim_is, pool_trim_number}
-use Rattle.engine_world.proofs.Keys.{and_both}
 use Rattle.engine_world.proofs.Knowing.{there_known, known_there}
-use Rattle.engine_world.proofs.Jobs.{number_cases, put_same, put_other, put_cases, gone_other, gone_found, job_same, resource_same, JobStays, agree_stays, stays_gone, jobs_gone, lent_gone, jobs_changed, lent_changed}
+use Rattle.engine_world.proofs.Jobs.{job_same, resource_same, JobStays, agree_stays, stays_gone, jobs_gone, lent_gone, jobs_changed, lent_changed}
 use Rattle.engine_world.proofs.Placing.{out_changed, out_gone, places_less}
 use Rattle.engine_world.proofs.QuietEvents.{from_outcome, now_known}
 use Rattle.engine_world.proofs.EndEvents.{places_from, held_same, set_remove_found}
@@ -207,7 +208,7 @@ module _ (w : World) (known : ℕ → Knowledge) (who n : ℕ) (state : LoadStat
       let resource : RefersTo w.jobs w.resources named.0 (Ready r) = subst (RefersTo w.jobs w.resources named.0) is named.2.refers in
       let count : (q : ℕ) → holders q w.loads ≡ one_if (eqb r q) + holders q left = λ q. holders_left q ∙ ap (λ st. one_if (ready_on q st) + holders q left) is in
       let other : (q : ℕ) → q ≢ r → holders q left ≡ holders q w.loads = λ q ne. omega (arith, count q, one_if_other r q (λ h. ne (sym h))) in
-      let was : is_held w.loads w.resources r ≡ true = and_both _ _ (ap is_some resource.1) (lt-ltb 0 _ (omega (arith, count r, one_if_same r))) in
+      let was : is_held w.loads w.resources r ≡ true = and_from _ _ (ap is_some resource.1) (lt-ltb 0 _ (omega (arith, count r, one_if_same r))) in
       let held_other : (q : ℕ) → q ≢ r → is_held left w.resources q ≡ is_held w.loads w.resources q = λ q ne. held_same w.loads left w.resources w.resources q (other q ne) refl in
       let awaited : AllAwaited left w.jobs = λ i a a_at live. omega (arith, waiting_left i, ap (λ st. one_if (waits_on i st)) is, s.awaited i a a_at live) in
       elim (eqb (holders r left) 0) as (λ t. eqb (holders r left) 0 ≡ t → Sound (cond t (let_go r (record w { loads = left })) (record w { loads = left })) now_known_of) [
@@ -251,7 +252,7 @@ module _ (w : World) (known : ℕ → Knowledge) (who n : ℕ) (state : LoadStat
             let some : holders r left ≢ 0 = eqb-false _ _ e in
             let still : (q : ℕ) → is_held left w.resources q ≡ is_held w.loads w.resources q = λ q. elim (number_cases q r) [
               | inl same ↦
-                  let now : is_held left w.resources r ≡ true = and_both _ _ (ap is_some resource.1) (lt-ltb 0 _ (omega (arith, some))) in
+                  let now : is_held left w.resources r ≡ true = and_from _ _ (ap is_some resource.1) (lt-ltb 0 _ (omega (arith, some))) in
                   ap (is_held left w.resources) same ∙ now ∙ sym (ap (is_held w.loads w.resources) same ∙ was)
               | inr ne ↦ held_other q ne
             ] in

@@ -14,6 +14,7 @@ use Rattle.finite_maps.specs.MapLaws.{not_Some, same_Some}
 use Rattle.load_table.specs.declared.loads.LoadState.TheVariants.{Waiting, Ready, Failed}
 use Rattle.active_resources.specs.Actives.{Numbers}
 use Rattle.load_table.specs.Loads.{LoadName, waits_on, ready_on, waiting, holders, owned}
+use Rattle.load_table.specs.LoadOrder.{load_total, load_same}
 use Rattle.engine_world.specs.World.{LoadState, Loads, Job, Resource, World}
 use Rattle.engine_world.specs.Places.{one_if, occurrences, is_held}
 use Rattle.engine_world.specs.Balance.{out_count, held_count}
@@ -23,9 +24,8 @@ use Rattle.engine_world.specs.Steps.{quota_of}
 use Rattle.engine_world.specs.Sound.{IsJob, Sound}
 use Rattle.engine_world.specs.Rooms.{quota_sum, WithinLimits}
 use Rattle.engine_world.specs.RoomLaws.{NeedsNoMoreRoom}
-use Rattle.engine_world.proofs.Orders.{load_total, load_same}
-use Rattle.engine_world.proofs.Occurs.{one_if_same, one_if_other, occurrences-append}
-use Rattle.engine_world.proofs.Jobs.{number_cases}
+use Rattle.engine_world.specs.OccurrenceLaws.{one_if_same, one_if_other, occurrences-append}
+use Rattle.engine_world.specs.NumberLaws.{number_cases}
 use Rattle.engine_world.proofs.EndEvents.{set_remove_found}
 use Rattle.engine_world.proofs.Knowing.{there_known}
 use Rattle.engine_world.proofs.Balances.{at_most, balance_law}

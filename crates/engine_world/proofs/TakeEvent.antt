@@ -18,12 +18,14 @@ use Rattle.engine_world.specs.Knowledge.{OwnJob, Knowledge, job_with, knowledge_
 use Rattle.engine_world.specs.Permits.{IsRunning}
 use Rattle.engine_world.specs.Sound.{IsJob, JobsAre, PoolIs, Serves, AllServe, JobAgrees, facts, KnowledgeAgrees, Sound}
 use Rattle.engine_world.specs.Laws.{KeepsSound}
+use Rattle.engine_world.specs.OccurrenceLaws.{one_if_same, one_if_other}
+use Rattle.engine_world.specs.NumberLaws.{number_cases}
 use Rattle.engine_world.proofs.Parts.{whereabouts_of, facts_of}
 use Rattle.finite_maps.specs.MapLaws.{not_Some, same_Some}
 use Rattle.engine_world.proofs.Orders.{at_each_seat}
-use Rattle.engine_world.proofs.Occurs.{found_at, one_if_same, one_if_other}
+use Rattle.engine_world.proofs.Occurs.{found_at}
 use Rattle.engine_world.proofs.PoolLaws.{pick_is, pick_number, serving_size-within}
-use Rattle.engine_world.proofs.Jobs.{number_cases, awaited_changed, jobs_changed, lent_changed, knows_other, knows_mine}
+use Rattle.engine_world.proofs.Jobs.{awaited_changed, jobs_changed, lent_changed, knows_other, knows_mine}
 use Rattle.engine_world.proofs.QuietEvents.{from_outcome}
 use Rattle.engine_world.proofs.Placing.{out_changed, places_less}
 

@@ -5,7 +5,7 @@ use Rattle.std.specs.Option.{is_some}
 use Rattle.std.specs.Cmp.{nat_cmp_total}
 use Rattle.std.specs.FinMap.{get, remove, nat_cmp-IsAntisymmetric}
 use Rattle.std.proofs.lemmas.List.{length-take, take-append-drop}
-use Rattle.std.proofs.lemmas.Bool.{ltb-false, leb-false}
+use Rattle.std.proofs.lemmas.Bool.{ltb-false, leb-false, and_from}
 use Rattle.cache_key.specs.Key.{Key}
 use Rattle.load_cause.specs.declared.causes.Cause.{Cause}
 use Rattle.fitting.specs.Fitting.{fitting}
@@ -13,18 +13,20 @@ use Rattle.fitting.specs.Prefixes.{fitting-take, fitting-le-length, all_fit}
 use Rattle.bitmap_pool.specs.Pool.{pooled, pool_put}
 use Rattle.load_table.specs.declared.loads.LoadState.TheVariants.{Ready}
 use Rattle.load_table.specs.Loads.{ready_on, holders}
+use Rattle.load_table.specs.LoadOrder.{load_total, load_same}
 use Rattle.engine_world.specs.World.{Job, Resource, Resources, World}
 use Rattle.engine_world.specs.Places.{one_if, occurrences, is_held, whereabouts, times_kept}
 use Rattle.engine_world.specs.Moves.{has_key, cached_of, allocation_of, size_of, without, pool_resource, to_pool, all_to_pool, shrink_cache, cached_to_pool, cache_first, to_cache, retire}
 use Rattle.engine_world.specs.Knowledge.{Knowledge}
 use Rattle.engine_world.specs.Sound.{AllAwaited, JobsAre, IsCacheable, KeysApart, ActiveAre, CachedAre, PoolIs, AllServe, IsResource, facts, KnowledgeAgrees, Sound}
+use Rattle.engine_world.specs.OccurrenceLaws.{one_if_same, one_if_other, occurrences-append, without_same, without_other, find-passes, find-none}
+use Rattle.engine_world.specs.KeyedLaws.{has_key-found, has_key-there}
+use Rattle.engine_world.specs.NumberLaws.{number_cases, gone_other, gone_found}
 use Rattle.engine_world.proofs.Parts.{whereabouts_of}
 use Rattle.finite_maps.specs.MapLaws.{same_Some, le-total, get-remove_same}
-use Rattle.engine_world.proofs.Orders.{load_total, load_same}
-use Rattle.engine_world.proofs.Occurs.{one_if_same, one_if_other, occurrences-append, occurrences-reverse, without_same, without_other}
+use Rattle.engine_world.proofs.Occurs.{occurrences-reverse}
 use Rattle.engine_world.proofs.PoolLaws.{pool_put_is, pool_put_number}
-use Rattle.engine_world.proofs.Keys.{and_both, has_key-found, has_key-there, find-passes, find-none}
-use Rattle.engine_world.proofs.Jobs.{number_cases, gone_other, gone_found, job_same, agree_stays}
+use Rattle.engine_world.proofs.Jobs.{job_same, agree_stays}
 use Rattle.engine_world.proofs.EndEvents.{held_same, sizes_same}
 use Rattle.engine_world.proofs.LoadEvent.{cached_without}
 
@@ -106,7 +108,7 @@ pooled_one w known r idle resource at l =
     let not_idle : occurrences r idle ≡ 0 = omega (arith, alone, here) in
     let not_held : one_if (is_held w.loads w.resources r) ≡ 0 = omega (arith, alone, here) in
     let no_holder : holders r w.loads ≡ 0 = elim (ltb 0 (holders r w.loads)) as (λ t. ltb 0 (holders r w.loads) ≡ t → holders r w.loads ≡ 0) [
-      | true ↦ λ e. absurd (omega (arith, not_held, ap one_if (and_both _ _ (ap is_some at) e)))
+      | true ↦ λ e. absurd (omega (arith, not_held, ap one_if (and_from _ _ (ap is_some at) e)))
       | false ↦ λ e. let small : holders r w.loads ≤ 0 = ltb-false _ _ e in omega (arith, small)
     ] refl in
     let other : (q : ℕ) → q ≢ r → get resources q ≡ get w.resources q = λ q ne. gone_other w.resources r q ne in

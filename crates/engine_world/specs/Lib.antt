@@ -8,8 +8,12 @@ pub use Rattle.bitmap_pool.specs.Pool
 pub mod World
 pub mod Places
 pub mod Moves
+pub mod NumberLaws
+pub mod OccurrenceLaws
+pub mod KeyedLaws
 pub mod Balance
 pub mod Steps
+pub mod KeptByMoves
 pub mod Knowledge
 pub mod Permits
 pub mod Sound

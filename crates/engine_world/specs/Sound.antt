@@ -106,7 +106,8 @@ AllServe (lent ∷ out) = Serves lent.allocation lent.width lent.height lent.con
 
 -- A resource's allocation serves its picture, which is that of its key where the content is known.
 pub record IsResource (content : Option Contents) (resource : Resource) : Type 0 where
-  pub serves : Serves resource.allocation resource.picture.width resource.picture.height resource.picture.config
+  pub serves :
+      Serves resource.allocation resource.picture.width resource.picture.height resource.picture.config
   pub picture_is : IsPicture content resource.key resource.picture
 
 -- ---- what seats know

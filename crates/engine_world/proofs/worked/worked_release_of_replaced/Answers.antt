@@ -6,8 +6,8 @@ use Rattle.std.specs.FinSet as set
 use Rattle.finite_maps.specs.Maps.{total, first_key}
 use Rattle.engine_world.specs.Moves.{active_of, has_key}
 use Rattle.engine_world.specs.Worked.{key, resource, r7, r9}
-use Rattle.engine_world.proofs.Jobs.{put_same}
-use Rattle.engine_world.proofs.Keys.{has_key-there}
+use Rattle.engine_world.specs.NumberLaws.{put_same}
+use Rattle.engine_world.specs.KeyedLaws.{has_key-there}
 use Rattle.engine_world.proofs.EndEvents.{set_insert_cases, set_remove_found}
 use Rattle.engine_world.proofs.Computing.{items-empty, no_loads, no_resources, more_loads, more_resources, at_resource, at_job, no_jobs, more_jobs, fewer_jobs, none_of_jobs, at_load, fewer_loads, fewer_resources, none_of_loads, none_of_resources, settled_none, settled_more, find-only}
 use Rattle.engine_world.proofs.worked.worked_release_of_replaced.Goals as goal

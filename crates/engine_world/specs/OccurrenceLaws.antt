@@ -1,56 +1,49 @@
--- Two tests, one kind, and looking for what has a key.
-use Rattle.std.proofs.Common.{◌≡◌, ℕ, ◌<◌, Bool, true, false, cond, eqb, List, [], ◌∷◌, Some, None, Option, refl, ap, sym, ◌∙◌, arith}
-use Rattle.std.specs.Prelude.{◌&&◌, ◌||◌, find}
+-- How often a number stands in a list, and what is found in lists and sets of numbers. It is plain mathematics.
+use Rattle.std.proofs.Common.{◌≡◌, ◌≢◌, ℕ, ◌+◌, ◌<◌, ◌≤◌, Bool, true, false, cond, eqb, List, [], ◌∷◌, ◌++◌, Some, None, refl, ap, sym, ◌∙◌, arith}
+use Rattle.std.specs.Prelude.{◌||◌, not, find}
 use Rattle.std.specs.List.{list_any}
-use Rattle.std.proofs.lemmas.Bool.{eqb-true}
 use Rattle.std.specs.Ordering.{nat_cmp, eq_by_cmp}
 use Rattle.std.specs.Cmp.{nat_cmp_total}
-use Rattle.std.specs.FinMap.{get, nat_cmp-IsAntisymmetric}
+use Rattle.std.specs.FinMap.{nat_cmp-IsAntisymmetric}
 use Rattle.std.specs.FinSet as set
-use Rattle.cache_key.specs.Key.{Key}
-use Rattle.cache_key.specs.KeyLaws.{same_key-is, same_key-of}
-use Rattle.active_resources.specs.Actives.{Numbers}
-use Rattle.engine_world.specs.World.{Resource, Resources}
-use Rattle.engine_world.specs.Places.{one_if, occurrences}
-use Rattle.job_table.specs.Jobs.{same_kind}
-use Rattle.engine_world.specs.Moves.{key_is, has_key}
+use Rattle.std.proofs.lemmas.Bool.{eqb-true, eq-eqb, ne_eqb}
 use Rattle.finite_maps.specs.MapLaws.{not_Some, same_Some, key_same, key_itself}
-use Rattle.engine_world.proofs.Occurs.{one_if_same}
+use Rattle.active_resources.specs.Actives.{Numbers}
+use Rattle.engine_world.specs.Places.{one_if, occurrences}
+use Rattle.engine_world.specs.Moves.{without}
 
-pub and_left : (a b : Bool) → (a && b) ≡ true → a ≡ true
-and_left true b e = refl
-and_left false b e = e
+pub one_if_same : (x : ℕ) → one_if (eqb x x) ≡ 1
+one_if_same x = ap one_if (eq-eqb x x refl)
 
-pub and_right : (a b : Bool) → (a && b) ≡ true → b ≡ true
-and_right true b e = e
-and_right false b e = cc
+pub one_if_other : (x y : ℕ) → x ≢ y → one_if (eqb x y) ≡ 0
+one_if_other x y ne = ap one_if (ne_eqb x y ne)
 
-pub and_both : (a b : Bool) → a ≡ true → b ≡ true → (a && b) ≡ true
-and_both true b e f = f
-and_both false b e f = e
+pub occurrences-append : (b : ℕ) (xs ys : List ℕ) → occurrences b (xs ++ ys) ≡ occurrences b xs + occurrences b ys
+occurrences-append b [] ys = omega arith
+occurrences-append b (x ∷ xs) ys = let rest : occurrences b (xs ++ ys) ≡ occurrences b xs + occurrences b ys = occurrences-append b xs ys in omega arith
 
-pub same_kind-is : (a b : Bool) → same_kind a b ≡ true → a ≡ b
-same_kind-is true true e = refl
-same_kind-is true false e = cc
-same_kind-is false true e = cc
-same_kind-is false false e = refl
+-- ---- without a number
 
-pub same_kind-itself : (a : Bool) → same_kind a a ≡ true
-same_kind-itself true = refl
-same_kind-itself false = refl
+pub without_same : (r : ℕ) (xs : List ℕ) → occurrences r (without r xs) ≡ 0
+without_same r [] = refl
+without_same r (x ∷ xs) = elim (eqb x r) as (λ b. eqb x r ≡ b → occurrences r (cond (not b) (x ∷ without r xs) (without r xs)) ≡ 0) [
+  | true ↦ λ e. without_same r xs
+  | false ↦ λ e. let here : one_if (eqb x r) ≡ 0 = ap one_if e in let rest : occurrences r (without r xs) ≡ 0 = without_same r xs in omega arith
+] refl
 
--- ---- what has a key
+pub without_other : (b r : ℕ) (xs : List ℕ) → b ≢ r → occurrences b (without r xs) ≡ occurrences b xs
+without_other b r [] ne = refl
+without_other b r (x ∷ xs) ne = elim (eqb x r) as (λ t. eqb x r ≡ t → occurrences b (cond (not t) (x ∷ without r xs) (without r xs)) ≡ occurrences b (x ∷ xs)) [
+  | true ↦ λ e. let here : one_if (eqb x b) ≡ 0 = one_if_other x b (λ is. ne (sym is ∙ eqb-true x r e)) in let rest : occurrences b (without r xs) ≡ occurrences b xs = without_other b r xs ne in omega arith
+  | false ↦ λ e. ap (λ n. one_if (eqb x b) + n) (without_other b r xs ne)
+] refl
 
--- a resource that has a key is there, with it
-pub key_is-found : (key : Key) (o : Option Resource) → key_is key o ≡ true → (resource : Resource) × (o ≡ Some resource) × (resource.key ≡ key)
-key_is-found key None e = cc
-key_is-found key (Some resource) e = (resource, refl, same_key-is resource.key key e)
-
-pub has_key-found : (resources : Resources) (key : Key) (r : ℕ) → has_key resources key r ≡ true → (resource : Resource) × (get resources r ≡ Some resource) × (resource.key ≡ key)
-has_key-found resources key r e = key_is-found key (get resources r) e
-
-pub has_key-there : (resources : Resources) (key : Key) (r : ℕ) (resource : Resource) → get resources r ≡ Some resource → resource.key ≡ key → has_key resources key r ≡ true
-has_key-there resources key r resource at is = ap (key_is key) at ∙ same_key-of resource.key key is
+pub without-le : (b r : ℕ) (xs : List ℕ) → occurrences b (without r xs) ≤ occurrences b xs
+without-le b r [] = omega arith
+without-le b r (x ∷ xs) = elim (eqb x r) as (λ t. occurrences b (cond (not t) (x ∷ without r xs) (without r xs)) ≤ occurrences b (x ∷ xs)) [
+  | true ↦ let rest : occurrences b (without r xs) ≤ occurrences b xs = without-le b r xs in omega arith
+  | false ↦ let rest : occurrences b (without r xs) ≤ occurrences b xs = without-le b r xs in omega arith
+]
 
 -- ---- looking in a list
 
