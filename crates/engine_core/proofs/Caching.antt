@@ -16,12 +16,13 @@ use Rattle.resource_table.specs.Resources as table
 use Rattle.engine_world.specs.World.{Resource, Resources, World}
 use Rattle.engine_world.specs.Places.{one_if, occurrences}
 use Rattle.engine_world.specs.Moves.{allocation_of, size_of, without, pool_resource, cached_to_pool}
+use Rattle.engine_world.specs.OccurrenceLaws.{one_if_same, without-le, without_same}
 use Rattle.engine_core.specs.declared.tables.Tables.TheInside.{Inside}
 use Rattle.engine_core.specs.TablesView.{resource_in, world_of, SizesAre}
 use Rattle.engine_core.specs.Releasing.{IsIdle}
 use Rattle.engine_core.specs.Loading.{AllThere}
 use Rattle.engine_core.proofs.Joins.{some_held}
-use Rattle.engine_core.proofs.Shrinking.{here, sums_same, found}
+use Rattle.engine_core.proofs.Shrinking.{sums_same, found}
 
 -- ---- what stands in the cache
 
@@ -29,7 +30,7 @@ use Rattle.engine_core.proofs.Shrinking.{here, sums_same, found}
 pub all_there : (m : table.Resources) (items : List (ℕ × ℕ)) → ((r : ℕ) → 0 < occurrences r (map number_in items) → IsSome (get (map_values resource_in m) r)) → AllThere m items
 all_there m [] are = tt
 all_there m (item ∷ items) are = (
-  some_held (get m (number_in item)) (ap is_some (sym (get-map_values nat_cmp resource_in m (number_in item))) ∙ are (number_in item) (let one = here (number_in item) in omega (arith, one))),
+  some_held (get m (number_in item)) (ap is_some (sym (get-map_values nat_cmp resource_in m (number_in item))) ∙ are (number_in item) (let one = one_if_same (number_in item) in omega (arith, one))),
   all_there m items (λ r some. are r (omega (arith, some))),
 )
 
@@ -61,20 +62,6 @@ without_numbers r [] = refl
 without_numbers r (item ∷ items) = elim (eqb (number_in item) r) as (λ t. map number_in (cond (not t) (item ∷ cache.without r items) (cache.without r items)) ≡ cond (not t) (number_in item ∷ without r (map number_in items)) (without r (map number_in items))) [
   | true ↦ without_numbers r items
   | false ↦ ap (λ l. number_in item ∷ l) (without_numbers r items)
-]
-
-pub without_same : (r : ℕ) (xs : List ℕ) → occurrences r (without r xs) ≡ 0
-without_same r [] = refl
-without_same r (x ∷ xs) = elim (eqb x r) as (λ b. eqb x r ≡ b → occurrences r (cond (not b) (x ∷ without r xs) (without r xs)) ≡ 0) [
-  | true ↦ λ e. without_same r xs
-  | false ↦ λ e. let at : one_if (eqb x r) ≡ 0 = ap one_if e in let rest : occurrences r (without r xs) ≡ 0 = without_same r xs in omega arith
-] refl
-
-pub without_le : (b r : ℕ) (xs : List ℕ) → occurrences b (without r xs) ≤ occurrences b xs
-without_le b r [] = omega arith
-without_le b r (x ∷ xs) = elim (eqb x r) as (λ t. occurrences b (cond (not t) (x ∷ without r xs) (without r xs)) ≤ occurrences b (x ∷ xs)) [
-  | true ↦ let rest : occurrences b (without r xs) ≤ occurrences b xs = without_le b r xs in omega arith
-  | false ↦ let rest : occurrences b (without r xs) ≤ occurrences b xs = without_le b r xs in omega arith
 ]
 
 -- what is left is not larger, by sizes that agree on it
@@ -110,11 +97,11 @@ still_idle w number older idle some =
     subst (λ (v : World). IsIdle v number) (sym (taken_out w older gone.0 gone.1)) (record {
       resource = idle.resource;
       there = get-remove_other nat_cmp_total nat_cmp-IsAntisymmetric w.resources older number other ∙ idle.there;
-      uncached = let less = without_le number older w.cached in omega (arith, less, idle.uncached);
+      uncached = let less = without-le number older w.cached in omega (arith, less, idle.uncached);
       cached = record {
-        once = λ r. let less = without_le r older w.cached in omega (arith, less, idle.cached.once r);
+        once = λ r. let less = without-le r older w.cached in omega (arith, less, idle.cached.once r);
         there = λ r in_.
-            let less = without_le r older w.cached in
+            let less = without-le r older w.cached in
             let ne : r ≢ older = λ is. let none = ap (λ n. occurrences n (without older w.cached)) is ∙ without_same older w.cached in absurd (omega (arith, none, in_)) in
             ap is_some (get-remove_other nat_cmp_total nat_cmp-IsAntisymmetric w.resources older r ne) ∙ idle.cached.there r (omega (arith, less, in_));
       };
@@ -131,7 +118,7 @@ still_idle w number older idle some =
 pub find_stands : (p : ℕ → Bool) (xs : List ℕ) (r : ℕ) → find p xs ≡ Some r → 0 < occurrences r xs
 find_stands p [] r is = absurd (not_Some is)
 find_stands p (x ∷ xs) r is = elim (p x) as (λ t. cond t (Some x) (find p xs) ≡ Some r → 0 < occurrences r (x ∷ xs)) [
-  | true ↦ λ is. let one : one_if (eqb x r) ≡ 1 = ap (λ n. one_if (eqb n r)) (same_Some _ _ is) ∙ here r in omega (arith, one)
+  | true ↦ λ is. let one : one_if (eqb x r) ≡ 1 = ap (λ n. one_if (eqb n r)) (same_Some _ _ is) ∙ one_if_same r in omega (arith, one)
   | false ↦ λ is. let rest = find_stands p xs r is in omega (arith, rest)
 ] is
 

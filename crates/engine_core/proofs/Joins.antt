@@ -108,19 +108,6 @@ pooled_is s number x t p puts is named left put =
     ∙ ap (λ (v : List (Group ℕ)). record w { resources = remove w.resources number; pool = v }) groups
     ∙ sym (ap (λ o. pool_resource number o w) gets)
 
--- a bitmap that is given back
-pub given_is : (s : Inside) (j : ℕ) (job : Job) (bitmap : BitmapValue) (n : ℕ) (live : Jobs) (p : PoolValue) → PutsAlike → n ≡ bitmap.number → get s.live.value j ≡ Some job
-    → live ≡ modify s.live.value j (less_lent n) → p ≡ put_into s.pool bitmap
-    → record (world_of s) { jobs = live; pool = numbered p.groups; limits = record (world_of s).limits { pool = p.maximum } } ≡ give_back (world_of s) j bitmap
-given_is s j job bitmap n live p puts named is changed put =
-    let w : World = world_of s in
-    let jobs : live ≡ insert w.jobs j (less_lent bitmap.number job) =
-    changed ∙ ap (λ m. modify s.live.value j (less_lent m)) named ∙ modify_there nat_cmp_total nat_cmp-IsAntisymmetric s.live.value j (less_lent bitmap.number) job is in
-    ap (λ (v : PoolValue). record w { jobs = live; pool = numbered v.groups; limits = record w.limits { pool = v.maximum } }) put
-    ∙ ap (λ (v : List (Group ℕ)). record w { jobs = live; pool = v }) (puts s.pool.maximum bitmap s.pool.groups)
-    ∙ ap (λ (v : Jobs). record w { jobs = v; pool = pool_put w.limits.pool bitmap.allocation bitmap.picture.config bitmap.number w.pool }) jobs
-    ∙ sym (ap (λ o. Rattle.engine_world.specs.Steps.bitmap_to_pool bitmap (take_back j o bitmap.number w)) is)
-
 -- a job that starts to run
 pub started_is : (s : Inside) (j who : ℕ) (job : Job) (t : JobTableValue) (live : Jobs) → get s.live.value j ≡ Some job → t.added ≡ s.jobs.added → live ≡ modify s.live.value j (run_on who)
     → record (world_of s) { jobs = live; counts = record (world_of s).counts { started = t.added } } ≡ (start_job (world_of s) who j (get (world_of s).jobs j)).1

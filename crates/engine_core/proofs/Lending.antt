@@ -13,11 +13,11 @@ use Rattle.resource_table.specs.Resources.{keys_of}
 use Rattle.engine_world.specs.declared.events.Lent.{Lent}
 use Rattle.engine_world.specs.declared.events.NotedReply.{NotedReply}
 use Rattle.engine_world.specs.World.{Job, Jobs, Resources, World}
-use Rattle.engine_world.specs.Moves.{lend}
+use Rattle.engine_world.specs.Moves.{lend, take_back}
 use Rattle.engine_world.specs.Steps.{Wanted, wanted_size, lent_as, take_pooled, IsOutcome, TakeFrom, Take, bitmap_to_pool}
 use Rattle.engine_core.specs.declared.tables.LoadCounts.{LoadCounts}
 use Rattle.engine_core.specs.declared.tables.Tables.TheInside.{Inside}
-use Rattle.engine_core.specs.LiveJobs.{with_lent}
+use Rattle.engine_core.specs.LiveJobs.{less_lent, with_lent}
 use Rattle.engine_core.specs.Noted.{lent_by}
 use Rattle.engine_core.specs.TablesView.{resource_in, world_of, AreJoined}
 
@@ -60,6 +60,14 @@ lent_is s j job lent live is changed =
     let w : World = world_of s in
     ap (λ (v : Jobs). record w { jobs = v }) (changed ∙ modify_there nat_cmp_total nat_cmp-IsAntisymmetric s.live.value j (with_lent lent) job is)
     ∙ sym (ap (λ o. lend j o lent w) is)
+
+-- a bitmap that is taken back
+pub taken_back_is : (s : Inside) (j : ℕ) (job : Job) (number : ℕ) (live : Jobs) → get s.live.value j ≡ Some job → live ≡ modify s.live.value j (less_lent number)
+    → record (world_of s) { jobs = live } ≡ take_back j (get (world_of s).jobs j) number (world_of s)
+taken_back_is s j job number live is changed =
+    let w : World = world_of s in
+    ap (λ (v : Jobs). record w { jobs = v }) (changed ∙ modify_there nat_cmp_total nat_cmp-IsAntisymmetric s.live.value j (less_lent number) job is)
+    ∙ sym (ap (λ o. take_back j o number w) is)
 
 -- what a look-up in the pool of bitmaps gives is what one in the pool of their numbers gives
 pub taken_from : (wanted : Wanted) (w z : World) (picked : Picked BitmapValue) (reply : NotedReply)

@@ -11,7 +11,8 @@ use Rattle.finite_maps.specs.MapLaws.{same_Some, le-total}
 use Rattle.bitmap_kind.specs.Picture.{BitmapValue}
 use Rattle.load_cause.specs.declared.causes.Cause.{Cause}
 use Rattle.load_table.specs.declared.loads.LoadState.TheVariants.{Waiting, Ready, Failed}
-use Rattle.load_table.specs.Loads.{LoadName, load_cmp, ready_on, holders}
+use Rattle.load_table.specs.Loads.{LoadName, ready_on, holders}
+use Rattle.load_table.specs.LoadOrder.{load_total, load_same}
 use Rattle.engine_world.specs.declared.events.Lent.{Lent}
 use Rattle.engine_world.specs.World.{LoadState, Job, Resource, World}
 use Rattle.engine_world.specs.Places.{one_if, occurrences, lent_numbers, is_held, times_out}
@@ -20,17 +21,11 @@ use Rattle.engine_world.specs.Knowledge.{OwnLoad, Knowledge}
 use Rattle.engine_world.specs.Permits.{IsOwn, IsRunning, IsAmongLent, IsResult}
 use Rattle.engine_world.specs.Sound.{LoadsAgree, JobAgrees, Sound}
 use Rattle.engine_world.specs.Rooms.{WithinLimits, FitsRooms}
+use Rattle.engine_world.specs.OccurrenceLaws.{one_if_same}
 use Rattle.engine_core.specs.Opening.{AreServed}
 use Rattle.engine_core.specs.Conditions.{IsLive}
 use Rattle.engine_core.specs.Lending.{MayCount, HasOne, HasPlaceFor}
 use Rattle.engine_core.specs.Releasing.{AreCached, IsIdle, QueuedHasNone, MayRelease}
-use Rattle.engine_core.proofs.Shrinking.{here}
-
-load_total : IsTotalOrder load_cmp
-load_total = then_total (on_total (λ (p : LoadName). p.0) nat_cmp_total) (on_total (λ (p : LoadName). p.1) nat_cmp_total)
-
-load_same : IsAntisymmetric load_cmp
-load_same = exact_pairs nat_cmp nat_cmp nat_cmp-IsAntisymmetric nat_cmp-IsAntisymmetric
 
 -- ---- lists of what is lent
 
@@ -47,7 +42,7 @@ lent_counts b (lent ∷ out) =
 among_counts : (bitmap : BitmapValue) (out : List Lent) → IsAmongLent bitmap out → 0 < occurrences bitmap.number (map (λ (lent : Lent). lent.number) out)
 among_counts bitmap [] among = absurd among
 among_counts bitmap (lent ∷ out) among = elim among [
-  | inl one ↦ let first : one_if (eqb lent.number bitmap.number) ≡ 1 = ap (λ n. one_if (eqb n bitmap.number)) (sym one.number) ∙ here bitmap.number in omega (arith, first)
+  | inl one ↦ let first : one_if (eqb lent.number bitmap.number) ≡ 1 = ap (λ n. one_if (eqb n bitmap.number)) (sym one.number) ∙ one_if_same bitmap.number in omega (arith, first)
   | inr later ↦ let rest = among_counts bitmap out later in omega (arith, rest)
 ]
 
@@ -91,7 +86,7 @@ module _ (w : World) (known : ℕ → Knowledge) (s : Sound w known) where
   out_is_new who j bitmap run result =
       let at = running who j run in
       let out : lent_numbers at.0 ≡ result.lent.number ∷ [] = ap (map (λ (lent : Lent). lent.number)) (at.2.out ∙ result.only) in
-      let one : one_if (eqb result.lent.number bitmap.number) ≡ 1 = ap (λ n. one_if (eqb n bitmap.number)) (sym result.same.number) ∙ here bitmap.number in
+      let one : one_if (eqb result.lent.number bitmap.number) ≡ 1 = ap (λ n. one_if (eqb n bitmap.number)) (sym result.same.number) ∙ one_if_same bitmap.number in
       let counted = ap (occurrences bitmap.number) out in
       let most : occurrences bitmap.number (lent_numbers at.0) ≤ times_out w.jobs bitmap.number = le-total nat_cmp_total nat_cmp-IsAntisymmetric (λ i (a : Job). occurrences bitmap.number (lent_numbers a)) w.jobs j at.0 at.1 in
       elim (get w.resources bitmap.number) as (λ o. get w.resources bitmap.number ≡ o → o ≡ None) [
@@ -104,7 +99,7 @@ module _ (w : World) (known : ℕ → Knowledge) (s : Sound w known) where
   out_is_uncached who j bitmap run result =
       let at = running who j run in
       let out : lent_numbers at.0 ≡ result.lent.number ∷ [] = ap (map (λ (lent : Lent). lent.number)) (at.2.out ∙ result.only) in
-      let one : one_if (eqb result.lent.number bitmap.number) ≡ 1 = ap (λ n. one_if (eqb n bitmap.number)) (sym result.same.number) ∙ here bitmap.number in
+      let one : one_if (eqb result.lent.number bitmap.number) ≡ 1 = ap (λ n. one_if (eqb n bitmap.number)) (sym result.same.number) ∙ one_if_same bitmap.number in
       let counted = ap (occurrences bitmap.number) out in
       let most : occurrences bitmap.number (lent_numbers at.0) ≤ times_out w.jobs bitmap.number = le-total nat_cmp_total nat_cmp-IsAntisymmetric (λ i (a : Job). occurrences bitmap.number (lent_numbers a)) w.jobs j at.0 at.1 in
       omega (arith, counted, one, most, s.places.once bitmap.number)
@@ -154,7 +149,7 @@ module _ (w : World) (known : ℕ → Knowledge) (s : Sound w known) where
   holds : (name : LoadName) (r : ℕ) → get w.loads name ≡ Some (Ready r) → 0 < holders r w.loads
   holds name r is =
       let most : one_if (ready_on {C = Cause} r (Ready r)) ≤ holders r w.loads = le-total load_total load_same (λ name (state : LoadState). one_if (ready_on r state)) w.loads name (Ready r) is in
-      let one : one_if (ready_on {C = Cause} r (Ready r)) ≡ 1 = here r in
+      let one : one_if (ready_on {C = Cause} r (Ready r)) ≡ 1 = one_if_same r in
       omega (arith, most, one)
 
   queued_none : (j : ℕ) → QueuedHasNone w j

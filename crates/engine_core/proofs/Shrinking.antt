@@ -4,7 +4,7 @@ use Rattle.std.specs.Prelude.{zero, suc, IsSome, is_some, ◌⊎◌, ◌&&◌, �
 use Rattle.std.specs.Option.{option_map}
 use Rattle.std.specs.FinMap.{get, remove, nat_cmp-IsAntisymmetric}
 use Rattle.std.proofs.lemmas.Cmp.{nat_cmp_total}
-use Rattle.std.proofs.lemmas.Bool.{eq-eqb, ltb-true, ltb-false}
+use Rattle.std.proofs.lemmas.Bool.{eq-eqb, ltb-true, ltb-false, or_cases, or_parts}
 use Rattle.std.proofs.lemmas.List.{length-map, take-map}
 use Rattle.std.proofs.lemmas.List.Sums.{sum_by-cons}
 use Rattle.std.proofs.lemmas.Option.{slice_get-map}
@@ -18,15 +18,12 @@ use Rattle.bitmap_pool.specs.Pool.{pool_put}
 use Rattle.engine_world.specs.World.{Resource, Resources, World}
 use Rattle.engine_world.specs.Places.{one_if, occurrences}
 use Rattle.engine_world.specs.Moves.{allocation_of, size_of, pool_resource, to_pool, all_to_pool, shrink_cache}
+use Rattle.engine_world.specs.OccurrenceLaws.{one_if_same, occurrences-append}
 use Rattle.engine_core.specs.declared.tables.Tables.TheInside.{Inside}
 use Rattle.engine_core.specs.TablesView.{resource_in, world_of, SizesAre, AreJoined}
 use Rattle.engine_core.specs.Releasing.{AreCached}
 
 -- ---- how often a number stands in a list
-
-pub occurrences-append : (b : ℕ) (xs ys : List ℕ) → occurrences b (xs ++ ys) ≡ occurrences b xs + occurrences b ys
-occurrences-append b [] ys = omega arith
-occurrences-append b (x ∷ xs) ys = let rest : occurrences b (xs ++ ys) ≡ occurrences b xs + occurrences b ys = occurrences-append b xs ys in omega arith
 
 -- a list without its last
 last_off : (x : ℕ) (xs : List ℕ) (e : ℕ) → slice_get (x ∷ xs) (length xs) ≡ Some e → x ∷ xs ≡ take (length xs) (x ∷ xs) ++ e ∷ []
@@ -38,9 +35,6 @@ without_eldest [] e is = absurd (not_Some is)
 without_eldest (x ∷ xs) e is =
     let one_less : length (x ∷ xs) - 1 ≡ length xs = omega arith in
     last_off x xs e (sym (ap (slice_get (x ∷ xs)) one_less) ∙ is) ∙ sym (ap (λ n. take n (x ∷ xs) ++ e ∷ []) one_less)
-
-pub here : (b : ℕ) → one_if (eqb b b) ≡ 1
-here b = ap one_if (eq-eqb b b refl)
 
 -- how often what stays stands, and what goes
 pub eldest_counts : (b : ℕ) (xs : List ℕ) (e : ℕ) → slice_get xs (length xs - 1) ≡ Some e → occurrences b xs ≡ occurrences b (take (length xs - 1) xs) + one_if (eqb e b)
@@ -89,7 +83,7 @@ recached s cache sizes a = record {
 pub fitting_same : (f g : ℕ → ℕ) (room slots : ℕ) (xs : List ℕ) → ((q : ℕ) → 0 < occurrences q xs → f q ≡ g q) → fitting f room slots xs ≡ fitting g room slots xs
 fitting_same f g room slots [] same = refl
 fitting_same f g room slots (x ∷ xs) same =
-    let first : f x ≡ g x = same x (let one = here x in omega (arith, one)) in
+    let first : f x ≡ g x = same x (let one = one_if_same x in omega (arith, one)) in
     ap (λ n. cond (ltb 0 slots && leb n room) (1 + fitting f (room - n) (slots - 1) xs) 0) first
     ∙ ap (λ n. cond (ltb 0 slots && leb (g x) room) (1 + n) 0) (fitting_same f g (room - g x) (slots - 1) xs (λ q some. same q (omega (arith, some))))
 
@@ -112,7 +106,7 @@ evicted_at w e resource at = ap (λ o. pool_resource e o (record w { cached = ta
 others : (w : World) (e q : ℕ) → AreCached w → slice_get w.cached (length w.cached - 1) ≡ Some e → 0 < occurrences q (take (length w.cached - 1) w.cached) → q ≢ e
 others w e q are last some same =
     let counts = eldest_counts q w.cached e last in
-    let one : one_if (eqb e q) ≡ 1 = ap (λ n. one_if (eqb n q)) (sym same) ∙ here q in
+    let one : one_if (eqb e q) ≡ 1 = ap (λ n. one_if (eqb n q)) (sym same) ∙ one_if_same q in
     absurd (omega (arith, counts, one, are.once q, some))
 
 module _ (w : World) (e room : ℕ) (resource : Resource) (at : get w.resources e ≡ Some resource) (are : AreCached w) (last : slice_get w.cached (length w.cached - 1) ≡ Some e) where
@@ -174,14 +168,6 @@ pub left_sizes : (m : Resources) (goes : Bool) (items : List (ℕ × ℕ)) → S
 left_sizes m true items sizes = sizes_take m (length items - 1) items sizes
 left_sizes m false items sizes = sizes
 
-or_cases : (a b : Bool) → (a || b) ≡ true → (a ≡ true) ⊎ (b ≡ true)
-or_cases true b is = inl refl
-or_cases false b is = inr is
-
-or_neither : (a b : Bool) → (a || b) ≡ false → (a ≡ false) × (b ≡ false)
-or_neither true b is = absurd (true≢false is)
-or_neither false b is = (refl, is)
-
 pub above_is : (m : Resources) (room : ℕ) (items : List (ℕ × ℕ)) → SizesAre m items → is_above size_in room items ≡ true → IsOver (size_of m) room 1024 (map number_in items)
 above_is m room items sizes is =
     let more : room < sum_by size_in items = ltb-true _ _ is in
@@ -203,7 +189,7 @@ within_above m room items sizes is =
 pub within_over : (m : Resources) (room : ℕ) (items : List (ℕ × ℕ)) → SizesAre m items → is_over size_in room items ≡ false
     → (sum_by (size_of m) (map number_in items) ≤ room) × (length (map number_in items) ≤ 1024)
 within_over m room items sizes is =
-    let neither = or_neither (is_above size_in room items) (ltb 1024 (length items)) is in
+    let neither = or_parts (is_above size_in room items) (ltb 1024 (length items)) is in
     let few : length items ≤ 1024 = ltb-false _ _ neither.1 in
     let long = length-map items number_in in
     (within_above m room items sizes neither.0, omega (arith, few, long))
@@ -220,13 +206,13 @@ pub record IsEldest (w : World) (e : ℕ) : Type 0 where
   pub are : AreCached w
 
 eldest_stands : (w : World) (e : ℕ) → IsEldest w e → 0 < occurrences e w.cached
-eldest_stands w e is = let counts = eldest_counts e w.cached e is.last in let one = here e in omega (arith, counts, one)
+eldest_stands w e is = let counts = eldest_counts e w.cached e is.last in let one = one_if_same e in omega (arith, counts, one)
 
 pub eldest_there : (w : World) (e : ℕ) → IsEldest w e → IsSome (get w.resources e)
 eldest_there w e is = is.are.there e (eldest_stands w e is)
 
 pub eldest_once : (w : World) (e : ℕ) → IsEldest w e → occurrences e (take (length w.cached - 1) w.cached) ≡ 0
-eldest_once w e is = let counts = eldest_counts e w.cached e is.last in let one = here e in omega (arith, counts, one, is.are.once e)
+eldest_once w e is = let counts = eldest_counts e w.cached e is.last in let one = one_if_same e in omega (arith, counts, one, is.are.once e)
 
 pub eldest_shrinks : (w : World) (e room : ℕ) → IsEldest w e → EldestGoes ℕ → IsOver (size_of w.resources) room 1024 w.cached → shrink_cache room (evicted w e) ≡ shrink_cache room w
 eldest_shrinks w e room is goes over = let at = found (get w.resources e) (eldest_there w e is) in step_shrinks w e room at.0 at.1 is.are is.last goes over

@@ -6,6 +6,7 @@ use Rattle.bitmap_kind.specs.Picture.{BitmapValue}
 use Rattle.cache_key.specs.Key.{Key}
 use Rattle.engine_world.specs.World.{Job, Resource, World}
 use Rattle.engine_world.specs.Places.{occurrences}
+use Rattle.engine_world.specs.Moves.{without_lent}
 use Rattle.engine_world.specs.Balance.{out_count}
 use Rattle.engine_world.specs.Sound.{ActiveAre}
 use Rattle.engine_world.specs.Rooms.{quota_sum}
@@ -20,6 +21,11 @@ pub record MayCount (w : World) : Type 0 where
 -- A live job has just one bitmap.
 abbrev pub HasOne : World → ℕ → Type 0
 HasOne w j = (job : Job) → get w.jobs j ≡ Some job → length job.out ≡ 1
+
+-- A live job has just one bitmap of this number.
+abbrev pub HasBitmap : World → ℕ → ℕ → Type 0
+HasBitmap w j number = (job : Job) → get w.jobs j ≡ Some job
+    → length job.out ≡ length (without_lent number job.out) + 1
 
 -- the resource of a key that a bitmap becomes
 abbrev pub resource_by : Key → Bool → BitmapValue → Resource

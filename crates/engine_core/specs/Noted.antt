@@ -9,7 +9,13 @@ use Rattle.engine_core.specs.declared.replies.Reply.TheVariants as replies
 
 -- a bitmap as it is when it is taken
 abbrev pub lent_by : BitmapValue → Lent
-lent_by bitmap = record { number = bitmap.number; allocation = bitmap.allocation; width = bitmap.picture.width; height = bitmap.picture.height; config = bitmap.picture.config }
+lent_by bitmap = record {
+  number = bitmap.number;
+  allocation = bitmap.allocation;
+  width = bitmap.picture.width;
+  height = bitmap.picture.height;
+  config = bitmap.picture.config;
+}
 
 abbrev pub noted : Reply → NotedReply
 noted replies.Full = notes.Full

@@ -1,4 +1,4 @@
--- What is behind the told bytes of a piece. It is this project's own.
+-- What is after the told bytes of a piece. It is this project's own.
 use Rattle.std.specs.Prelude.{◌≡◌, ◌-◌, ◌≤◌, ◌++◌, length, take, replicate, ⊤}
 use Rattle.engine_world.specs.declared.events.Event.{Event}
 use Rattle.engine_world.specs.declared.events.Event.TheVariants as events

@@ -12,7 +12,12 @@ use Rattle.engine_core.specs.declared.tables.Tables.TheInside.{Inside}
 
 -- a resource of the table as the world has it
 abbrev pub resource_in : ResourceValue → Resource
-resource_in resource = record { key = resource.key; cacheable = resource.cacheable; allocation = resource.bitmap.allocation; picture = resource.bitmap.picture }
+resource_in resource = record {
+  key = resource.key;
+  cacheable = resource.cacheable;
+  allocation = resource.bitmap.allocation;
+  picture = resource.bitmap.picture;
+}
 
 abbrev pub world_of : Inside → World
 world_of s = record {
@@ -41,13 +46,16 @@ world_of s = record {
 -- Each cached number stands with the size of its resource.
 abbrev pub SizesAre : Resources → List (ℕ × ℕ) → Type 0
 SizesAre resources [] = Unit {0}
-SizesAre resources (item ∷ items) = (size_in item ≡ size_of resources (number_in item)) × SizesAre resources items
+SizesAre resources (item ∷ items) =
+    (size_in item ≡ size_of resources (number_in item)) × SizesAre resources items
 
--- The tables tell one state: the jobs are those that the table has, the bitmaps that are out are counted, cached sizes are those of the resources, and each table has its room.
+-- The tables tell one state: the jobs are those that the table has, the bitmaps that are out are counted,
+-- cached sizes are those of the resources, and each table has its room.
 pub record AreJoined (s : Inside) : Type 0 where
   pub jobs : s.jobs.jobs ≡ table_jobs s.live.value
   pub out : s.out ≡ total (λ j job. length job.out) s.live.value
-  pub counts : (number : ℕ) (resource : ResourceValue) → get s.resources.resources number ≡ Some resource → resource.count ≡ 0
+  pub counts : (number : ℕ) (resource : ResourceValue) → get s.resources.resources number ≡ Some resource
+      → resource.count ≡ 0
   pub sizes : SizesAre (map_values resource_in s.resources.resources) s.cache.items
   pub seats : length s.begun.items ≡ length s.quotas.items
   -- rooms

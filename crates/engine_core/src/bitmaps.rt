@@ -7,13 +7,13 @@ ghost use Rattle.finite_maps.specs.Maps.{map_values};
 ghost use Rattle.load_table.specs.Loads.{settled};
 ghost use Rattle.load_table.specs.declared.loads.Settle.TheVariants as settles;
 ghost use Rattle.engine_world.specs.Balance.{out_count};
-ghost use Rattle.engine_world.specs.Moves.{lend};
-ghost use Rattle.engine_world.specs.Steps.{Wanted, take_pooled, TakeFrom, Take, bitmap_to_pool, activate, IsOutcome, finish};
+ghost use Rattle.engine_world.specs.Moves.{lend, take_back};
+ghost use Rattle.engine_world.specs.Steps.{Wanted, take_pooled, TakeFrom, Take, bitmap_to_pool, give_back, activate, IsOutcome, finish};
 ghost use Rattle.engine_core.specs.Noted.{noted, lent_by};
 ghost use Rattle.engine_core.specs.Conditions.{IsLive};
-ghost use Rattle.engine_core.specs.Lending.{MayCount, HasOne, HasPlaceFor, resource_by};
+ghost use Rattle.engine_core.specs.Lending.{MayCount, HasOne, HasBitmap, HasPlaceFor, resource_by};
 
-use crate::live_jobs::{JobEnds, JobTakes, Loan};
+use crate::live_jobs::{JobEnds, JobGives, JobTakes, Loan, Return};
 use crate::replies::Reply;
 use crate::tables::Tables;
 use bitmap_kind::{Bitmap, Config};
@@ -66,7 +66,8 @@ impl Tables {
         requires size { IsSize width height }
         requires live { IsLive self.old job }
         requires may { MayCount self.old }
-        ensures { let wanted : Wanted = record { job = job; width = width; height = height; config = config } in
+        ensures { let wanted : Wanted =
+            record { job = job; width = width; height = height; config = config } in
             TakeFrom wanted self.old None (noted result) self.new }
     {
         let made = Bitmap::make(self.alloc, self.next, width, height, config);
@@ -84,7 +85,8 @@ impl Tables {
         requires size { IsSize width height }
         requires live { IsLive self.old job }
         requires may { MayCount self.old }
-        ensures { let wanted : Wanted = record { job = job; width = width; height = height; config = config } in
+        ensures { let wanted : Wanted =
+            record { job = job; width = width; height = height; config = config } in
             Take wanted self.old (noted result) self.new }
     {
         numbers_stand_for_bitmaps();
@@ -100,6 +102,26 @@ impl Tables {
     {
         numbers_stand_for_bitmaps();
         self.pool.put(bitmap);
+    }
+
+    // A bitmap is with its job no longer.
+    fn take_back(&mut self, job: u64, number: u64)
+        requires live { IsLive self.old job }
+        requires lent { HasBitmap self.old job number }
+        ensures { self.new ≡ take_back job (get self.old.jobs job) number self.old }
+    {
+        self.out -= 1;
+        update_snapshot::<_, _, JobGives>(&mut self.live, &Return { job, number });
+    }
+
+    /// A job gives a bitmap back.
+    pub fn give_back(&mut self, job: u64, bitmap: Bitmap)
+        requires live { IsLive self.old job }
+        requires lent { HasBitmap self.old job bitmap.number }
+        ensures { self.new ≡ give_back self.old job bitmap }
+    {
+        self.take_back(job, bitmap.number());
+        self.pool_bitmap(bitmap);
     }
 
     // A job that has one bitmap ends, and the bitmap is out no longer. It answers what the job was to load.

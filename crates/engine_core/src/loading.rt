@@ -33,7 +33,8 @@ pub(crate) fn first_with(
     key: &EngineKey,
 ) -> Option<u64>
     requires { AllThere resources.now.resources items.now }
-    ensures { result ≡ find (has_key (map_values resource_in resources.now.resources) key.now) (map number_in items.now) }
+    ensures { result
+        ≡ find (has_key (map_values resource_in resources.now.resources) key.now) (map number_in items.now) }
 {
     for item in items {
         if resources.get(item.0).key().is(key) {
@@ -179,8 +180,10 @@ impl Tables {
     fn load_from_memory(&mut self, who: u32, spec: LoadSpec) -> Reply
         requires order { InOrder self.old }
         requires add { MayAddLoad self.old who }
-        ensures reply { noted result ≡ (load_by_active self.old who spec (active_of self.old.resources self.old.active spec.key)).0 }
-        ensures left { self.new ≡ (load_by_active self.old who spec (active_of self.old.resources self.old.active spec.key)).1 }
+        ensures reply { noted result
+            ≡ (load_by_active self.old who spec (active_of self.old.resources self.old.active spec.key)).0 }
+        ensures left { self.new
+            ≡ (load_by_active self.old who spec (active_of self.old.resources self.old.active spec.key)).1 }
     {
         lookups_find_the_only_one();
         same_key_is_equality();

@@ -22,7 +22,8 @@ impl Tables {
     // The eldest leaves the memory cache for the pool, where the cache is over. It answers whether one did.
     fn evict_over(&mut self) -> bool
         requires { AreCached self.old }
-        ensures same { shrink_cache self.old.limits.memory self.new ≡ shrink_cache self.old.limits.memory self.old }
+        ensures same { shrink_cache self.old.limits.memory self.new
+            ≡ shrink_cache self.old.limits.memory self.old }
         ensures within { result ≡ false → shrink_cache self.old.limits.memory self.new ≡ self.new }
         ensures less { result ≡ true → length self.new.cached < length self.old.cached }
         ensures cached { AreCached self.new }

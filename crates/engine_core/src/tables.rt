@@ -1,18 +1,18 @@
 // The tables as one state.
-ghost use Rattle.std.specs.Prelude.{◌≡◌, ℕ, ◌+◌, [], take, drop, length, Some, None, IsSome, true};
+ghost use Rattle.std.specs.Prelude.{◌≡◌, ℕ, [], take, drop, Some, None, IsSome, true};
 ghost use Rattle.std.specs.FinMap.{get, remove};
 ghost use Rattle.load_table.specs.declared.loads.Settle.TheVariants as settles;
 ghost use Rattle.job_table.specs.Jobs.{queued_in};
 ghost use Rattle.engine_world.specs.declared.events.NotedReply.TheVariants as notes;
 ghost use Rattle.engine_world.specs.World.{Job};
 ghost use Rattle.engine_world.specs.Places.{occurrences};
-ghost use Rattle.engine_world.specs.Moves.{table_jobs, to_pool, end_job, without_lent};
-ghost use Rattle.engine_world.specs.Steps.{collected, shown, shape_of, piece_from, is_cancelled, next_job, start_job, give_back};
+ghost use Rattle.engine_world.specs.Moves.{table_jobs, to_pool, end_job};
+ghost use Rattle.engine_world.specs.Steps.{collected, shown, shape_of, piece_from, is_cancelled, next_job, start_job};
 ghost use Rattle.engine_core.specs.Noted.{noted};
 ghost use Rattle.engine_core.specs.Conditions.{IsShown, IsLive};
 ghost use Rattle.engine_core.specs.Padded.{IsPadded, IsPaddedReply};
 
-use crate::live_jobs::{JobEnds, JobGives, JobRuns, NoJobs, Return, Start};
+use crate::live_jobs::{JobEnds, JobRuns, NoJobs, Start};
 use crate::replies::{PIECE, Piece, Reply};
 use active_resources::Active;
 use bitmap_kind::Bitmap;
@@ -125,7 +125,8 @@ impl Tables {
     /// The shape of the picture that a load is ready on.
     pub fn look(&self, who: u32, number: u64) -> Reply
         requires { IsShown self.now who number }
-        ensures { noted result ≡ shown self.now (λ picture. notes.Shape (shape_of picture)) (get self.now.loads (who, number)) }
+        ensures { noted result
+            ≡ shown self.now (λ picture. notes.Shape (shape_of picture)) (get self.now.loads (who, number)) }
     {
         match self.loads.state(who, number) {
             LoadState::Ready(r) => Reply::Shape(shape_of(self.resources.get(*r).bitmap())),
@@ -136,7 +137,9 @@ impl Tables {
     /// A piece of the stored bytes of the picture that a load is ready on.
     pub fn read(&self, who: u32, number: u64, at: usize) -> Reply
         requires { IsShown self.now who number }
-        ensures shown { noted result ≡ shown self.now (λ picture. notes.Piece (piece_from at picture)) (get self.now.loads (who, number)) }
+        ensures shown { noted result
+            ≡ shown self.now (λ picture. notes.Piece (piece_from at picture))
+              (get self.now.loads (who, number)) }
         ensures padded { IsPaddedReply result }
     {
         match self.loads.state(who, number) {
@@ -219,18 +222,5 @@ impl Tables {
         numbers_stand_for_bitmaps();
         let resource = self.resources.remove(number);
         self.pool.put(resource.into_bitmap());
-    }
-
-    /// A job gives a bitmap back.
-    pub fn give_back(&mut self, job: u64, bitmap: Bitmap)
-        requires live { IsLive self.old job }
-        requires lent { (live : Job) → get self.old.jobs job ≡ Some live → length live.out ≡ length (without_lent bitmap.number live.out) + 1 }
-        ensures { self.new ≡ give_back self.old job bitmap }
-    {
-        numbers_stand_for_bitmaps();
-        let number = bitmap.number();
-        self.out -= 1;
-        update_snapshot::<_, _, JobGives>(&mut self.live, &Return { job, number });
-        self.pool.put(bitmap);
     }
 }

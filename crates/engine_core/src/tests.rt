@@ -55,7 +55,8 @@ fn wanted(
 fn act(core: &mut Core, who: u32, event: Event) -> Reply
     requires served { IsServed core.old who }
     requires asks { Permits None (knowledge_in core.old.history who) event }
-    ensures own { knowledge_in core.new.history who ≡ updated event (noted result) (knowledge_in core.old.history who) }
+    ensures own { knowledge_in core.new.history who
+        ≡ updated event (noted result) (knowledge_in core.old.history who) }
     ensures others { OthersKnow who core.old.history core.new.history }
     ensures keeps { Keeps core.old core.new }
 {
@@ -67,7 +68,8 @@ fn act(core: &mut Core, who: u32, event: Event) -> Reply
 fn load(core: &mut Core, who: u32, spec: LoadSpec) -> Reply
     requires served { IsServed core.old who }
     requires few { (knowledge_in core.old.history who).begun < 1000 }
-    ensures begun { (knowledge_in core.new.history who).begun ≤ (knowledge_in core.old.history who).begun + 1 }
+    ensures begun { (knowledge_in core.new.history who).begun
+        ≤ (knowledge_in core.old.history who).begun + 1 }
     ensures job { (knowledge_in core.new.history who).job ≡ (knowledge_in core.old.history who).job }
     ensures others { OthersKnow who core.old.history core.new.history }
     ensures keeps { Keeps core.old core.new }

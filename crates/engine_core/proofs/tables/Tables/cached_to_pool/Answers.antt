@@ -4,10 +4,11 @@ use Rattle.memory_cache.specs.Cache.{CacheValue, number_in}
 use Rattle.engine_world.specs.World.{World}
 use Rattle.engine_world.specs.Places.{occurrences}
 use Rattle.engine_world.specs.Moves.{without, to_pool}
+use Rattle.engine_world.specs.OccurrenceLaws.{without_same}
 use Rattle.engine_core.specs.declared.tables.Tables.TheInside.{Inside}
 use Rattle.engine_core.specs.TablesView.{resource_in, world_of, SizesAre}
 use Rattle.engine_core.proofs.Shrinking.{recached, sizes_filter}
-use Rattle.engine_core.proofs.Caching.{without_numbers, without_same}
+use Rattle.engine_core.proofs.Caching.{without_numbers}
 use Rattle.engine_core.proofs.tables.Tables.cached_to_pool.Goals as goal
 
 pub invariant_of-self : goal.invariant_of-self

@@ -1,15 +1,15 @@
 use Rattle.std.proofs.Common.{◌≡◌, ℕ, ◌-◌, ◌≤◌, length, refl, ap, sym, ◌∙◌, arith}
-use Rattle.std.specs.FinMap.{nat_cmp-IsAntisymmetric}
+use Rattle.std.specs.FinMap.{get, nat_cmp-IsAntisymmetric}
 use Rattle.std.proofs.lemmas.Cmp.{nat_cmp_total}
 use Rattle.finite_maps.specs.Maps.{total, modify}
 use Rattle.finite_maps.specs.MapLaws.{le-total}
 use Rattle.engine_world.specs.World.{Job, Jobs, World}
-use Rattle.engine_world.specs.Moves.{table_job, table_jobs, without_lent}
-use Rattle.engine_world.specs.Steps.{give_back}
+use Rattle.engine_world.specs.Moves.{table_job, table_jobs, take_back}
 use Rattle.engine_core.specs.LiveJobs.{less_lent}
 use Rattle.engine_core.proofs.MovedMaps.{moved_same}
-use Rattle.engine_core.proofs.Joins.{live_in, out_changed, given_is}
-use Rattle.engine_core.proofs.tables.Tables.give_back.Goals as goal
+use Rattle.engine_core.proofs.Joins.{live_in, out_changed}
+use Rattle.engine_core.proofs.Lending.{taken_back_is}
+use Rattle.engine_core.proofs.tables.Tables.take_back.Goals as goal
 
 pub overflow_sub-self : goal.overflow_sub-self
 overflow_sub-self c =
@@ -22,14 +22,12 @@ overflow_sub-self c =
 pub invariant_of-self : goal.invariant_of-self
 invariant_of-self c =
     let is = live_in c.self.inside c.args.self.now c.args.job c.self.view_is c.requires.live in
-    let changed = out_changed c.self.inside.live.value c.args.job c.requires.live.job (less_lent c.number-number.result) is in
+    let changed = out_changed c.self.inside.live.value c.args.job c.requires.live.job (less_lent c.args.number) is in
     let one = c.requires.lent c.requires.live.job c.requires.live.there in
-    let named : length (without_lent c.number-number.result c.requires.live.job.out) ≡ length (without_lent c.args.bitmap.number c.requires.live.job.out) =
-    ap (λ n. length (without_lent n c.requires.live.job.out)) c.number-number.ensures in
-    let less : c.self.inside.out - 1 ≡ total (λ (j : ℕ) (job : Job). length job.out) (modify c.self.inside.live.value c.args.job (less_lent c.number-number.result)) =
-    omega (arith, changed, one, named, c.self.invariant.out) in
+    let less : c.self.inside.out - 1 ≡ total (λ (j : ℕ) (job : Job). length job.out) (modify c.self.inside.live.value c.args.job (less_lent c.args.number)) =
+    omega (arith, changed, one, c.self.invariant.out) in
     record {
-      jobs = c.self.invariant.jobs ∙ sym (moved_same nat_cmp_total nat_cmp-IsAntisymmetric table_job c.self.inside.live.value c.args.job c.requires.live.job (less_lent c.number-number.result) is refl)
+      jobs = c.self.invariant.jobs ∙ sym (moved_same nat_cmp_total nat_cmp-IsAntisymmetric table_job c.self.inside.live.value c.args.job c.requires.live.job (less_lent c.args.number) is refl)
           ∙ sym (ap table_jobs c.update_snapshot.ensures);
       out = less ∙ sym (ap (λ (m : Jobs). total (λ j job. length job.out) m) c.update_snapshot.ensures);
       counts = c.self.invariant.counts;
@@ -43,6 +41,5 @@ invariant_of-self c =
 
 pub returns : goal.returns
 returns c =
-    given_is c.self.inside c.args.job c.requires.live.job c.args.bitmap c.number-number.result c.update_snapshot.new._shot.value c.put.new.self c.numbers_stand_for_bitmaps.ensures.puts c.number-number.ensures
-    (live_in c.self.inside c.args.self.now c.args.job c.self.view_is c.requires.live) c.update_snapshot.ensures c.put.ensures
-    ∙ ap (λ (w : World). give_back w c.args.job c.args.bitmap) c.self.view_is
+    taken_back_is c.self.inside c.args.job c.requires.live.job c.args.number c.update_snapshot.new._shot.value (live_in c.self.inside c.args.self.now c.args.job c.self.view_is c.requires.live) c.update_snapshot.ensures
+    ∙ ap (λ (w : World). take_back c.args.job (get w.jobs c.args.job) c.args.number w) c.self.view_is
