@@ -3,7 +3,6 @@ use Rattle.std.proofs.Common.{List, None, Option, Some, [], ap, cond, false, inl
 use Rattle.std.proofs.lemmas.Slice.Eq.{bytes_eq-Decides}
 use Rattle.std.specs.Str.{bytes_eq}
 use Rattle.bitmap_kind.specs.Picture.{Picture}
-use Rattle.engine_world.specs.Steps.{load}
 use Rattle.engine_world.specs.declared.events.Event.{Event}
 use Rattle.engine_world.specs.declared.events.Note.{Note}
 use Rattle.finite_maps.specs.MapLaws.{not_Some, same_Some}

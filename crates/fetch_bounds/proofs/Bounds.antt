@@ -1,6 +1,6 @@
 -- A run costs no more jobs than the starts of its walk.
 use Rattle.std.proofs.Common.{Bool, List, Option, Some, [], ap, arith, false, leb, length, ltb, refl, sym, true, true≢false, ◌*◌, ◌++◌, ◌+◌, ◌∷◌, ◌≡◌, ◌≤◌}
-use Rattle.std.proofs.lemmas.Bool.{leb-true, ltb-true}
+use Rattle.std.proofs.lemmas.Bool.{leb-true, ltb-true, and_parts}
 use Rattle.std.specs.List.{list_any}
 use Rattle.std.specs.Ordering.{nat_cmp}
 use Rattle.std.specs.Prelude.{not, ◌&&◌}
@@ -10,15 +10,14 @@ use Rattle.engine_world.specs.Sound.{Sound}
 use Rattle.engine_world.specs.World.{Job, Limits, World, opening}
 use Rattle.engine_world.specs.declared.events.Event.{Event}
 use Rattle.engine_world.specs.declared.events.Note.{Note}
+use Rattle.engine_world.specs.NumberLaws.{total-empty}
 use Rattle.outside.specs.Content.{Contents}
 use Rattle.script_walk.specs.Laws.{TracesAreOrderly}
 use Rattle.script_walk.specs.Marks.{begins_in}
 use Rattle.script_walk.specs.Starts.{Walked, is_trim, keys_of, remembers, total_size}
-use Rattle.script_walk.specs.Walk.{ended}
 use Rattle.state_machine.specs.declared.entry.Entry.{Entry}
 use Rattle.fetch_bounds.proofs.Counting.{AllMarked, Counted, Course, IsRoomy, at_opening, count}
 use Rattle.fetch_bounds.proofs.Histories.{Goes, Grounds, legal_goes}
-use Rattle.fetch_bounds.proofs.Maps.{and_left, and_right, total-empty}
 use Rattle.fetch_bounds.proofs.Running.{queue, runs_are_started, waits_for_source}
 use Rattle.fetch_bounds.specs.Costs.{source_runs, source_starts}
 use Rattle.fetch_bounds.specs.InMemory.{AllFit}
@@ -35,9 +34,9 @@ remembers_parts run e =
     let no_trim : Bool = not (list_any is_trim run.events) in
     let few : Bool = leb (length keys) 1024 in
     let room : Bool = ltb (8 * total_size run.results keys) run.memory in
-    let both : (no_trim && few) ≡ true = and_left (no_trim && few) room e in (
-      not_true (list_any is_trim run.events) (and_left no_trim few both),
-      record { few = leb-true _ _ (and_right no_trim few both); room = ltb-true _ _ (and_right (no_trim && few) room e) },
+    let both : (no_trim && few) ≡ true = (and_parts (no_trim && few) room e).0 in (
+      not_true (list_any is_trim run.events) (and_parts no_trim few both).0,
+      record { few = leb-true _ _ (and_parts no_trim few both).1; room = ltb-true _ _ (and_parts (no_trim && few) room e).1 },
     )
 
 module _ {M Reply : Type 0} (g : Grounds) (world : M → World) (history : M → List (Entry Note)) (note : Event → Reply → Note) (always : AlwaysSound world history note) where

@@ -20,12 +20,12 @@ use Rattle.load_cause.specs.declared.causes.Cause.{Cause}
 use Rattle.load_table.specs.Loads.{LoadName, load_cmp, owned, settled, state_of}
 use Rattle.load_table.specs.declared.loads.LoadState.TheVariants.{Failed, Ready, Waiting}
 use Rattle.load_table.specs.declared.loads.Settle.{Settle}
-use Rattle.fetch_bounds.proofs.Maps.{load_same, load_total}
-use Rattle.fetch_bounds.proofs.Moves.{Outlasts, lend-keeps, next_job-keeps, released-keeps, take_back-keeps, trim-keeps}
+use Rattle.engine_world.specs.KeptByMoves.{Outlasts, lend-keeps, next_job-keeps, released-keeps, take_back-keeps, trim-keeps}
 use Rattle.load_cause.specs.declared.causes.Cause.TheVariants as causes
 use Rattle.engine_world.specs.declared.events.Event.TheVariants as events
 use Rattle.engine_world.specs.declared.events.NotedReply.TheVariants as replies
 use Rattle.load_table.specs.declared.loads.Settle.TheVariants as settles
+use Rattle.load_table.specs.LoadOrder.{load_same, load_total}
 
 -- whether a load has failed, or waits
 abbrev pub is_failed : LoadState → Bool

@@ -1,5 +1,6 @@
 -- A walk's begins start no more jobs than the walk has starts, besides those for begins that ask the caches alone.
 use Rattle.std.proofs.Common.{Bool, Err, List, None, Ok, Option, Result, Some, [], ap, arith, false, inl, inr, length, refl, subst, sym, true, true≢false, ℕ, ◌+◌, ◌<◌, ◌∙◌, ◌∷◌, ◌≡◌, ◌≤◌}
+use Rattle.std.proofs.lemmas.Bool.{and_parts, or_cases}
 use Rattle.std.specs.FinMap.{get}
 use Rattle.std.specs.List.{list_any}
 use Rattle.std.specs.Option.{is_some}
@@ -31,7 +32,6 @@ use Rattle.fetch_bounds.proofs.Following.{IsStep, Passes, all_work_law, known_af
 use Rattle.fetch_bounds.proofs.Histories.{Goes, Grounds, Said}
 use Rattle.fetch_bounds.proofs.Keeping.{absent, findable_law, opens_findable}
 use Rattle.fetch_bounds.proofs.Keyed.{keyed_law}
-use Rattle.fetch_bounds.proofs.Maps.{and_left, and_right, none_at, number_cases, or_cases}
 use Rattle.fetch_bounds.proofs.Remaining.{there_law}
 use Rattle.fetch_bounds.proofs.Right.{AllRight, right_law, right_or_free}
 use Rattle.fetch_bounds.proofs.Seats.{known_there}
@@ -46,6 +46,7 @@ use Rattle.fetch_bounds.specs.Laws.{IsFree}
 use Rattle.fetch_bounds.proofs.Standing as Standing
 use Rattle.engine_world.specs.declared.events.Event.TheVariants as events
 use Rattle.engine_world.specs.declared.events.NotedReply.TheVariants as replies
+use Rattle.engine_world.specs.NumberLaws.{none_at, number_cases}
 use Rattle.script_walk.specs.Starts as walks
 
 -- A walk, what the engine beside it knows, and its marks; `events` is the whole trace.
@@ -101,10 +102,10 @@ module _ (g : Grounds) (k : Course) where
         → LoadsAmong keys e.note.event → (remembers run ≡ true → TrimsNothing e.note.event) → InStep begun' live' complete m (known_after known e)
     in_step begun' live' stands asks among no_trim = record {
       stands = stands;
-      findable = λ key h. findable_law g.same_keys key w known at.stands.sound (at.findable key h) m e.by e.note.event e.note.reply s.permits (asks key h) s.step;
+      findable = λ key h. findable_law key w known at.stands.sound (at.findable key h) m e.by e.note.event e.note.reply s.permits (asks key h) s.step;
       among = keyed_law keys w at.among m e.by e.note.event e.note.reply among s.step;
       there = λ r key in_complete h.
-          there_law g.same_keys key keys k.content w known at.stands.sound (at.findable key h) at.among at.stands.content_is (fit_now r) m e.by e.note.event e.note.reply s.permits (no_trim r) s.step (at.there r key in_complete h);
+          there_law key keys k.content w known at.stands.sound (at.findable key h) at.among at.stands.content_is (fit_now r) m e.by e.note.event e.note.reply s.permits (no_trim r) s.step (at.there r key in_complete h);
       right = right_law k.content w m known e.by e.note.event e.note.reply at.stands.sound at.stands.content_is s.permits s.step at.right;
     }
 
@@ -178,8 +179,8 @@ module _ (g : Grounds) (k : Course) where
 
         pub begin : InStep (begun + 1) (b ∷ live) complete m (known_after known e)
         begin = in_step (begun + 1) (b ∷ live) (begin_stands g (AllMarked k.marks) k.limits (Some k.content) begun live w m known at.stands e s mine b is number few roomy.room)
-            (λ key h. subst (LoadsAskAll key) (sym is) (asks_all g.same_keys key every b b_in h))
-            (subst (LoadsAmong keys) (sym is) (among_keys g.same_keys b every b_in))
+            (λ key h. subst (LoadsAskAll key) (sym is) (asks_all key every b b_in h))
+            (subst (LoadsAmong keys) (sym is) (among_keys b every b_in))
             (λ r. subst TrimsNothing (sym is) tt)
 
         pub begin_loads : m.counts.loads ≡ w.counts.loads + 1
@@ -191,11 +192,11 @@ module _ (g : Grounds) (k : Course) where
         -- it is shared with another view
         by_shared : is_ok (end_in k.content b.spec.key) ≡ true → is_plain every b.spec.key ≡ true → is_shared k.marks b.spec.key others ≡ true → m.counts.started ≡ w.counts.started
         by_shared ok plain shared =
-            let other = shared_in g.same_keys k.marks b.spec.key others shared in
+            let other = shared_in k.marks b.spec.key others shared in
             let l : IsKnown (known 0) other.0 = at.stands.live_are other.0 (sides other.0 other.1) in
             let unmarked : k.marks (l.0 + 1) ≡ None = ap k.marks (sym l.1) ∙ other.3 in
             let key_is : l.2.key ≡ b.spec.key = l.4 ∙ other.2 in
-            ap (λ (v : World). v.counts.started) made.1 ∙ shared_loads_start_no_job g.same_keys w known e.by b.spec at.stands.sound (at.findable b.spec.key plain) (asks_all g.same_keys b.spec.key every b b_in plain)
+            ap (λ (v : World). v.counts.started) made.1 ∙ shared_loads_start_no_job w known e.by b.spec at.stands.sound (at.findable b.spec.key plain) (asks_all b.spec.key every b b_in plain)
             (record {
               seat = 0;
               number = l.0;
@@ -211,10 +212,10 @@ module _ (g : Grounds) (k : Course) where
         -- it is in memory
         by_memory : is_plain every b.spec.key ≡ true → remembers run ≡ true → walks.has_key b.spec.key complete ≡ true → m.counts.started ≡ w.counts.started
         by_memory plain r in_complete =
-            let all = asks_all g.same_keys b.spec.key every b b_in plain in
-            let there = at.there r b.spec.key (any_among g.same_keys b.spec.key complete in_complete) plain in
+            let all = asks_all b.spec.key every b b_in plain in
+            let there = at.there r b.spec.key (any_among b.spec.key complete in_complete) plain in
             ap (λ (v : World). v.counts.started) made.1 ∙ none_started w e.by b.spec (all.memory refl)
-            (λ no_active no_cached no_job. absent g.same_keys b.spec.key w known at.stands.sound (at.findable b.spec.key plain) e.by b.spec all no_active no_cached refl there.0 there.1 there.2 there.3)
+            (λ no_active no_cached no_job. absent b.spec.key w known at.stands.sound (at.findable b.spec.key plain) e.by b.spec all no_active no_cached refl there.0 there.1 there.2 there.3)
 
         by_cover : is_covered run complete b others ≡ true → m.counts.started ≡ w.counts.started
         by_cover h =
@@ -222,11 +223,11 @@ module _ (g : Grounds) (k : Course) where
             let plain : Bool = is_plain every b.spec.key in
             let shared : Bool = is_shared k.marks b.spec.key others in
             let there : Bool = walks.has_key b.spec.key complete in
-            let both : (ok && plain) ≡ true = and_left (ok && plain) (shared || (remembers run && there)) h in
-            let cover : (shared || (remembers run && there)) ≡ true = and_right (ok && plain) (shared || (remembers run && there)) h in
+            let both : (ok && plain) ≡ true = (and_parts (ok && plain) (shared || (remembers run && there)) h).0 in
+            let cover : (shared || (remembers run && there)) ≡ true = (and_parts (ok && plain) (shared || (remembers run && there)) h).1 in
             elim (or_cases shared (remembers run && there) cover) [
-              | inl e ↦ by_shared (and_left ok plain both) (and_right ok plain both) e
-              | inr e ↦ by_memory (and_right ok plain both) (and_left (remembers run) there e) (and_right (remembers run) there e)
+              | inl e ↦ by_shared (and_parts ok plain both).0 (and_parts ok plain both).1 e
+              | inr e ↦ by_memory (and_parts ok plain both).1 (and_parts (remembers run) there e).0 (and_parts (remembers run) there e).1
             ]
 
         pub begin_started : m.counts.started ≤ w.counts.started + (one_if (not (b.spec.cached || is_covered run complete b others)) + one_if b.spec.cached)

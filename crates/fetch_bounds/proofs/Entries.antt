@@ -11,13 +11,13 @@ use Rattle.engine_world.specs.Worked.{lent}
 use Rattle.engine_world.specs.declared.events.Event.{Event}
 use Rattle.engine_world.specs.declared.events.NotedReply.{NotedReply}
 use Rattle.finite_maps.specs.MapLaws.{same_Some}
-use Rattle.fetch_bounds.proofs.Maps.{number_cases, put_cases, put_other, put_same}
 use Rattle.fetch_bounds.proofs.Starting.{IsNoLoad}
 use Rattle.fetch_bounds.specs.Findable.{LoadsAskAll}
 use Rattle.fetch_bounds.specs.Follows.{IsWork}
 use Rattle.fetch_bounds.specs.InMemory.{LoadsAmong, TrimsNothing}
 use Rattle.engine_world.specs.declared.events.Event.TheVariants as events
 use Rattle.engine_world.specs.declared.events.NotedReply.TheVariants as replies
+use Rattle.engine_world.specs.NumberLaws.{number_cases, put_cases, put_other, put_same}
 
 -- It knows as many loads as before, and each with its key.
 pub record Knows (old new : Knowledge) : Type 0 where

@@ -20,13 +20,11 @@ use Rattle.script_walk.specs.Worked.{a}
 use Rattle.state_machine.specs.Histories.{own}
 use Rattle.state_machine.specs.Legal.{IsLegal, Leads, MayFollow}
 use Rattle.state_machine.specs.declared.entry.Entry.{Entry}
-use Rattle.fetch_bounds.proofs.Keys.{SameIsEqual}
 use Rattle.engine_world.specs.declared.events.Event.TheVariants as events
 use Rattle.engine_world.specs.declared.events.NotedReply.TheVariants as replies
 
 -- What the laws of the crates below say.
 pub record Grounds : Type 0 where
-  pub same_keys : SameIsEqual
   pub keeps_sound : (event : Event) → KeepsSound event
   pub keeps_opening : (event : Event) → KeepsOpening event
 

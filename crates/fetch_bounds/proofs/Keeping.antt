@@ -1,7 +1,7 @@
 -- Each event keeps a key findable that loads ask all for.
 use Rattle.std.proofs.Common.{Bool, None, Option, Some, ap, arith, cond, eqb, false, inl, inr, refl, subst, sym, true, true≢false, ℕ, ◌+◌, ◌<◌, ◌∙◌, ◌≡◌, ◌≢◌}
-use Rattle.std.proofs.lemmas.Bool.{ltb-true}
-use Rattle.std.specs.FinMap.{get, insert, keys, remove}
+use Rattle.std.proofs.lemmas.Bool.{ltb-true, and_parts}
+use Rattle.std.specs.FinMap.{get, insert, remove}
 use Rattle.std.specs.Prelude.{not}
 use Rattle.bitmap_kind.specs.Picture.{BitmapValue}
 use Rattle.cache_key.specs.Key.{Key}
@@ -20,19 +20,21 @@ use Rattle.finite_maps.specs.Maps.{map_values}
 use Rattle.load_table.specs.Loads.{holders, owned, settled}
 use Rattle.load_table.specs.declared.loads.LoadState.TheVariants.{Ready, Waiting}
 use Rattle.fetch_bounds.proofs.Events.{IsOther, no_more_law}
-use Rattle.fetch_bounds.proofs.Keys.{SameIsEqual, has_key-found, has_key-there}
-use Rattle.fetch_bounds.proofs.Maps.{and_right, find-none, find-passes, gone_found, none_at, number_cases, one_if_other, put_cases, set_has, set_keeps, set_leaves, stands_item}
+use Rattle.engine_world.specs.KeyedLaws.{has_key-found, has_key-there}
 use Rattle.fetch_bounds.proofs.NoMore.{gone-no_more, no_more-findable}
 use Rattle.fetch_bounds.proofs.Seats.{Runs, holders_added, holders_settled, next_is_new, runs}
 use Rattle.fetch_bounds.proofs.Shares.{active_of-none}
+use Rattle.fetch_bounds.proofs.Sets.{set_has, set_keeps, set_leaves}
 use Rattle.fetch_bounds.specs.Findable.{AsksAll, IsFindable, LoadsAskAll}
 use Rattle.fetch_bounds.specs.Laws.{KeepsFindable, OpensFindable}
 use Rattle.engine_world.specs.declared.events.Event.TheVariants as events
 use Rattle.engine_world.specs.declared.events.NotedReply.TheVariants as replies
+use Rattle.engine_world.specs.OccurrenceLaws.{find-none, find-passes, one_if_other, stands_item}
+use Rattle.engine_world.specs.NumberLaws.{gone_found, none_at, number_cases, put_cases}
 use Rattle.std.specs.FinSet as set
 use Rattle.load_table.specs.declared.loads.Settle.TheVariants as settles
 
-module _ (keys : SameIsEqual) (key : Key) (w : World) (known : ℕ → Knowledge) (s : Sound w known) (p : IsFindable key w) where
+module _ (key : Key) (w : World) (known : ℕ → Knowledge) (s : Sound w known) (p : IsFindable key w) where
   -- ---- Load
 
   module _ (who : ℕ) (spec : LoadSpec) (all : AsksAll key spec) where
@@ -47,10 +49,10 @@ module _ (keys : SameIsEqual) (key : Key) (w : World) (known : ℕ → Knowledge
     absent no_active no_cached is r a at same =
         let kept : 0 < one_if (is_held w.loads w.resources r) + occurrences r w.cached = s.places.kept r a at in
         elim (is_held w.loads w.resources r) as (λ t. is_held w.loads w.resources r ≡ t → ⊥) [
-          | true ↦ λ e. active_of-none keys w key r a p at same (ltb-true _ _ (and_right _ _ e)) (ap (active_of w.resources w.active) (sym is) ∙ no_active)
+          | true ↦ λ e. active_of-none w key r a p at same (ltb-true _ _ (and_parts _ _ e).1) (ap (active_of w.resources w.active) (sym is) ∙ no_active)
           | false ↦ λ e.
               let there : 0 < occurrences r w.cached = omega (arith, kept, ap one_if e) in
-              true≢false (sym (has_key-there keys w.resources spec.key r a at (same ∙ sym is)) ∙ find-none (has_key w.resources spec.key) w.cached r no_cached there)
+              true≢false (sym (has_key-there w.resources spec.key r a at (same ∙ sym is)) ∙ find-none (has_key w.resources spec.key) w.cached r no_cached there)
         ] refl
 
     waits-findable : (j : ℕ) (o : Option ℕ) → ((o ≡ None) → spec.key ≡ key → (r : ℕ) (a : Resource) → get w.resources r ≡ Some a → a.key ≡ key → ⊥) → IsFindable key (load_by_job w who spec o).1
@@ -128,7 +130,7 @@ module _ (keys : SameIsEqual) (key : Key) (w : World) (known : ℕ → Knowledge
     not_replaced : (o : Option ℕ) → active_of w.resources w.active job.spec.key ≡ o → (q : ℕ) (a : Resource) → get w.resources q ≡ Some a → a.key ≡ key → set.contains w.active q ≡ true → set.contains (replace o w.active) q ≡ true
     not_replaced None e q a at is has = has
     not_replaced (Some x) e q a at is has = set_leaves w.active x q (λ same.
-        let found = has_key-found keys w.resources job.spec.key x (find-passes (has_key w.resources job.spec.key) (set.items w.active) x e).0 in
+        let found = has_key-found w.resources job.spec.key x (find-passes (has_key w.resources job.spec.key) (set.items w.active) x e).0 in
         let one : found.0 ≡ a = same_Some _ _ (sym found.1 ∙ ap (get w.resources) (sym same) ∙ at) in
         p.alone j job at_job live (sym found.2 ∙ ap (λ (c : Resource). c.key) one ∙ is) q a at is) has
 
@@ -173,8 +175,8 @@ module _ (keys : SameIsEqual) (key : Key) (w : World) (known : ℕ → Knowledge
       stays z _ step.1 (subst (λ (o : Option Job). IsFindable key (finish w j o bitmap).1) (sym r.at) (finish-findable j bitmap r.job r.at))
   findable_law z who event reply permits all step = other z who event reply tt step
 
-pub keeps_findable : SameIsEqual → (event : Event) → KeepsFindable event
-keeps_findable keys event key w z known who reply s permits all step p = findable_law keys key w known s p z who event reply permits all step
+pub keeps_findable : (event : Event) → KeepsFindable event
+keeps_findable event key w z known who reply s permits all step p = findable_law key w known s p z who event reply permits all step
 
 pub opens_findable : OpensFindable
 opens_findable key limits content = record {

@@ -13,11 +13,11 @@ use Rattle.engine_world.specs.declared.events.NotedReply.{NotedReply}
 use Rattle.load_table.specs.Loads.{owned}
 use Rattle.script_walk.specs.Walk.{step}
 use Rattle.fetch_bounds.proofs.Events.{IsOther, no_more_law}
-use Rattle.fetch_bounds.proofs.Maps.{gone_found, put_cases}
 use Rattle.fetch_bounds.proofs.NoMore.{HasNoMore}
 use Rattle.fetch_bounds.specs.InMemory.{IsAmong, LoadedAmong, LoadsAmong}
 use Rattle.engine_world.specs.declared.events.Event.TheVariants as events
 use Rattle.engine_world.specs.declared.events.NotedReply.TheVariants as replies
+use Rattle.engine_world.specs.NumberLaws.{gone_found, put_cases}
 use Rattle.load_table.specs.declared.loads.Settle.TheVariants as settles
 
 no_more-keyed : (keys : List Key) (w v : World) → HasNoMore w v → LoadedAmong keys w → LoadedAmong keys v

@@ -1,9 +1,7 @@
-mod Maps
-mod Keys
+mod Sets
 mod Seats
 mod NoMore
 mod Events
-mod Moves
 mod Starting
 mod Shares
 mod Keyed

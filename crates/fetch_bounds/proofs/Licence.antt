@@ -1,7 +1,7 @@
 -- The begins of one key that fail together by their source need one failed job: they run at the same time, and so were made
 -- after the same gather.
 use Rattle.std.proofs.Common.{Bool, Err, List, None, Ok, Option, Result, Some, [], ap, arith, cond, false, inl, inr, length, refl, subst, sym, true, true≢false, ℕ, ◌++◌, ◌+◌, ◌-◌, ◌<◌, ◌∙◌, ◌∷◌, ◌≡◌, ◌≤◌}
-use Rattle.std.proofs.lemmas.Bool.{eq-eqb}
+use Rattle.std.proofs.lemmas.Bool.{eq-eqb, and_from}
 use Rattle.std.proofs.lemmas.List.{length-append}
 use Rattle.std.proofs.lemmas.List.Sums.{sum_by-append, sum_by-cons}
 use Rattle.std.specs.FinMap.{get, get-empty}
@@ -39,8 +39,7 @@ use Rattle.fetch_bounds.proofs.Changing.{IsLoad, failed_law, waiting_law}
 use Rattle.fetch_bounds.proofs.Entries.{work_no_load}
 use Rattle.fetch_bounds.proofs.Following.{IsStep, Passes, all_work_law, known_after, next_law, prints_law}
 use Rattle.fetch_bounds.proofs.Histories.{Goes, Grounds, Said, legal_goes, step_same}
-use Rattle.fetch_bounds.proofs.Keys.{SameIsEqual, same_key-of}
-use Rattle.fetch_bounds.proofs.Maps.{and_both}
+use Rattle.cache_key.specs.KeyLaws.{same_key-of}
 use Rattle.fetch_bounds.proofs.Seats.{there_known}
 use Rattle.fetch_bounds.proofs.Standing.{IsKnown, Stands, begin_stands, drop_stands, in_without, load_known, opening_stands, same_number, stays_without, trim_stands, work_stands}
 use Rattle.fetch_bounds.proofs.Starting.{IsNoLoad}
@@ -101,15 +100,15 @@ any_not p (x ∷ bs) b none b_in passes = elim (p x) as (λ t. p x ≡ t → (t 
 ] refl none
 
 -- begins that have pairs are no more by distinct fetches than the pairs
-distinct_few : SameIsEqual → (bs : List Begin) (pairs : List (ℕ × Key)) → ((b : Begin) → In b bs → HasPair b pairs) → length (distinct same_fetch bs) ≤ length pairs
-distinct_few keys [] pairs has = omega arith
-distinct_few keys (x ∷ bs) pairs has = elim (list_any (same_fetch x) bs) as (λ t. list_any (same_fetch x) bs ≡ t → length (cond t (distinct same_fetch bs) (x ∷ distinct same_fetch bs)) ≤ length pairs) [
-  | true ↦ λ e. distinct_few keys bs pairs (λ b b_in. has b (inr b_in))
+distinct_few : (bs : List Begin) (pairs : List (ℕ × Key)) → ((b : Begin) → In b bs → HasPair b pairs) → length (distinct same_fetch bs) ≤ length pairs
+distinct_few [] pairs has = omega arith
+distinct_few (x ∷ bs) pairs has = elim (list_any (same_fetch x) bs) as (λ t. list_any (same_fetch x) bs ≡ t → length (cond t (distinct same_fetch bs) (x ∷ distinct same_fetch bs)) ≤ length pairs) [
+  | true ↦ λ e. distinct_few bs pairs (λ b b_in. has b (inr b_in))
   | false ↦ λ e.
       let out = without_pair x pairs (has x (inl refl)) in
       let rest : length (distinct same_fetch bs) ≤ length out.left =
-      distinct_few keys bs out.left (λ b b_in. elim (out.others b (has b (inr b_in))) [
-        | inl same ↦ absurd (any_not (same_fetch x) bs b e b_in (and_both _ _ (eq-eqb x.gathers b.gathers (sym same.0)) (same_key-of keys _ _ (sym same.1))))
+      distinct_few bs out.left (λ b b_in. elim (out.others b (has b (inr b_in))) [
+        | inl same ↦ absurd (any_not (same_fetch x) bs b e b_in (and_from _ _ (eq-eqb x.gathers b.gathers (sym same.0)) (same_key-of _ _ (sym same.1))))
         | inr there ↦ there
       ]) in
       omega (arith, rest, out.fewer)
@@ -436,7 +435,7 @@ failed_jobs_suffice g always orderly together world history note run is marks_ar
     let c : Suffices g run.limits (Some run.content) every apart address start (knowledge_in []) run.history =
     suffice g run.limits (Some run.content) every apart address is.room run.world events 0 [] [] [] order (together run.outcome run.commands) (λ b b_in. b_in) start (knowledge_in []) run.history at is.follows goes in
     let few : failed_fetches run.marks every address ≤ length c.pairs =
-    distinct_few g.same_keys (begins_at address (source_marked run.marks every)) c.pairs (λ b b_in.
+    distinct_few (begins_at address (source_marked run.marks every)) c.pairs (λ b b_in.
     let here = in_filter (λ (o : Begin). same_address (address_of o.spec.key) address) (source_marked run.marks every) b b_in in
     let marked = in_filter (λ (o : Begin). is_source (run.marks o.number)) every b here.0 in
     let number = load_number b (later_numbers events 0 [] order b marked.0) in

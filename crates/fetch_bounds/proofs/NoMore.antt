@@ -11,16 +11,18 @@ use Rattle.engine_world.specs.Places.{one_if}
 use Rattle.engine_world.specs.Steps.{release, released, trim}
 use Rattle.engine_world.specs.World.{Job, LoadState, Resource, World}
 use Rattle.engine_world.specs.declared.events.Lent.{Lent}
+use Rattle.engine_world.specs.NumberLaws.{gone_found, put_cases}
 use Rattle.finite_maps.specs.MapLaws.{total-remove}
 use Rattle.load_cause.specs.declared.causes.Cause.{Cause}
 use Rattle.load_table.specs.Loads.{holders, ready_on, waiting}
 use Rattle.load_table.specs.declared.loads.LoadState.TheVariants.{Failed, Ready, Waiting}
 use Rattle.memory_cache.specs.Cache.{cache_gone, cache_kept, is_too_large}
-use Rattle.fetch_bounds.proofs.Maps.{gone_found, load_same, load_total, put_cases, set_leaves}
 use Rattle.fetch_bounds.proofs.Seats.{holders_settled}
+use Rattle.fetch_bounds.proofs.Sets.{set_leaves}
 use Rattle.fetch_bounds.specs.Findable.{AsksAll, IsFindable}
 use Rattle.std.specs.FinSet as set
 use Rattle.load_table.specs.declared.loads.Settle.TheVariants as settles
+use Rattle.load_table.specs.LoadOrder.{load_same, load_total}
 
 -- One state has no more than another: no other jobs and resources, holds no other resource, and no fewer of those are active.
 pub record HasNoMore (w v : World) : Type 0 where

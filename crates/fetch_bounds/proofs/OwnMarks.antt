@@ -13,7 +13,6 @@ use Rattle.engine_world.specs.Moves.{begun_by}
 use Rattle.engine_world.specs.Permits.{IsCauseOf}
 use Rattle.engine_world.specs.Sound.{Sound}
 use Rattle.engine_world.specs.Steps.{Step, Transition, collected}
-use Rattle.engine_world.specs.Worked.{start}
 use Rattle.engine_world.specs.World.{Limits, LoadState, World}
 use Rattle.engine_world.specs.declared.events.Event.{Event}
 use Rattle.engine_world.specs.declared.events.Note.{Note}

@@ -1,6 +1,6 @@
 -- Where all pictures fit into the memory cache, one that is there stays.
 use Rattle.std.proofs.Common.{Bool, List, None, Ok, Option, Some, [], ap, arith, cond, drop, eqb, false, inl, inr, leb, length, refl, subst, sym, true, true≢false, ℕ, ◌*◌, ◌+◌, ◌<◌, ◌∙◌, ◌∷◌, ◌≡◌, ◌≢◌, ◌≤◌}
-use Rattle.std.proofs.lemmas.Bool.{leb-true, lt-ltb}
+use Rattle.std.proofs.lemmas.Bool.{leb-true, lt-ltb, and_from}
 use Rattle.std.specs.FinMap.{FinMap, get, insert, remove}
 use Rattle.std.specs.Option.{is_none, is_some}
 use Rattle.std.specs.Ordering.{nat_cmp}
@@ -27,13 +27,14 @@ use Rattle.outside.specs.Content.{Contents}
 use Rattle.script_walk.specs.Marks.{KeyResults}
 use Rattle.script_walk.specs.Starts.{total_size}
 use Rattle.fetch_bounds.proofs.Events.{same_law}
-use Rattle.fetch_bounds.proofs.Keys.{SameIsEqual, has_key-found, has_key-there}
-use Rattle.fetch_bounds.proofs.Maps.{and_both, find-none, find-passes, gone_other, number_cases, one_if_other, one_if_same, put_other, without-le, without_same}
+use Rattle.engine_world.specs.KeyedLaws.{has_key-found, has_key-there}
 use Rattle.fetch_bounds.proofs.Seats.{Runs, is_holder, result_is_fresh, runs, there_known}
 use Rattle.fetch_bounds.proofs.Sums.{AreOfKeys, fit_keys, size_within}
 use Rattle.fetch_bounds.specs.Findable.{IsFindable}
 use Rattle.fetch_bounds.specs.InMemory.{AllFit, IsInMemory, LoadedAmong, TrimsNothing}
 use Rattle.engine_world.specs.declared.events.Event.TheVariants as events
+use Rattle.engine_world.specs.OccurrenceLaws.{find-none, find-passes, one_if_other, one_if_same, without-le, without_same}
+use Rattle.engine_world.specs.NumberLaws.{gone_other, number_cases, put_other}
 use Rattle.std.specs.FinSet as set
 use Rattle.load_table.specs.declared.loads.Settle.TheVariants as settles
 use Rattle.script_walk.specs.Starts as walks
@@ -46,19 +47,19 @@ pool_resource_other : (r : ℕ) (o : Option Resource) (v : World) (q : ℕ) → 
 pool_resource_other r None v q ne = refl
 pool_resource_other r (Some b) v q ne = gone_other v.resources r q ne
 
-module _ (same_is : SameIsEqual) (content : KeyResults) (keys : List Key) where
+module _ (content : KeyResults) (keys : List Key) where
   -- what becomes the most recent drives nothing out
-  cache_first_same : (r : ℕ) (u : World) → AreOfKeys same_is content u.resources keys (r ∷ u.cached) → AllFit content u.limits.memory keys → (cache_first r u).resources ≡ u.resources
+  cache_first_same : (r : ℕ) (u : World) → AreOfKeys content u.resources keys (r ∷ u.cached) → AllFit content u.limits.memory keys → (cache_first r u).resources ≡ u.resources
   cache_first_same r u are fits =
       let xs = r ∷ u.cached in
-      let b = fit_keys same_is content u.resources xs keys are in
+      let b = fit_keys content u.resources xs keys are in
       let size : sum_by (size_of u.resources) xs ≤ 8 * total_size content keys = b.size in
       let few : length xs ≤ length keys = b.few in
       let all : fitting (size_of u.resources) u.limits.memory 1024 xs ≡ length xs = within_fits (size_of u.resources) u.limits.memory 1024 xs (omega (arith, size, fits.room)) (omega (arith, few, fits.few)) in
       let none : cache_gone (size_of u.resources) u.limits.memory xs ≡ [] = ap (λ n. reverse (drop n xs)) all ∙ ap reverse (drop_all xs) in
       ap (λ l. (all_to_pool l (record (record u { cached = xs }) { cached = cache_kept (size_of u.resources) u.limits.memory xs })).resources) none
 
-module _ (same_is : SameIsEqual) (key : Key) (keys : List Key) (c : Contents) (w : World) (known : ℕ → Knowledge) (s : Sound w known) (p : IsFindable key w) (within : LoadedAmong keys w) (told : w.content ≡ Some c) (fits : AllFit (end_in c) w.limits.memory keys) where
+module _ (key : Key) (keys : List Key) (c : Contents) (w : World) (known : ℕ → Knowledge) (s : Sound w known) (p : IsFindable key w) (within : LoadedAmong keys w) (told : w.content ≡ Some c) (fits : AllFit (end_in c) w.limits.memory keys) where
   -- a resource is at most 8 times as large as its key's picture
   allocated : (r : ℕ) (a : Resource) → get w.resources r ≡ Some a → a.allocation ≤ 8 * walks.size_of (end_in c a.key)
   allocated r a at =
@@ -76,7 +77,7 @@ module _ (same_is : SameIsEqual) (key : Key) (keys : List Key) (c : Contents) (w
 
     not_cached : occurrences r w.cached ≡ 0
     not_cached =
-        let held : is_held w.loads w.resources r ≡ true = and_both _ _ (ap is_some at) (lt-ltb 0 _ was_held) in
+        let held : is_held w.loads w.resources r ≡ true = and_from _ _ (ap is_some at) (lt-ltb 0 _ was_held) in
         let once : times_kept (whereabouts w) r ≤ 1 = s.places.once r in
         omega (arith, once, ap one_if held)
 
@@ -85,7 +86,7 @@ module _ (same_is : SameIsEqual) (key : Key) (keys : List Key) (c : Contents) (w
 
     -- it, and what is cached beside it, have distinct keys that are among these
     are_of : (resources : FinMap nat_cmp Resource) (left : List ℕ) → ((q : ℕ) → 0 < one_if (eqb r q) + occurrences q left → get resources q ≡ get w.resources q)
-        → ((q : ℕ) → occurrences q left ≤ occurrences q w.cached) → ((q : ℕ) (b : Resource) → 0 < occurrences q left → get w.resources q ≡ Some b → b.key ≢ a.key) → AreOfKeys same_is (end_in c) resources keys (r ∷ left)
+        → ((q : ℕ) → occurrences q left ≤ occurrences q w.cached) → ((q : ℕ) (b : Resource) → 0 < occurrences q left → get w.resources q ≡ Some b → b.key ≢ a.key) → AreOfKeys (end_in c) resources keys (r ∷ left)
     are_of resources left same less others =
         let in_left : (q : ℕ) → 0 < one_if (eqb r q) + occurrences q left → q ≢ r → 0 < occurrences q left = λ q some ne. omega (arith, some, one_if_other r q (λ h. ne (sym h))) in
         record {
@@ -124,15 +125,15 @@ module _ (same_is : SameIsEqual) (key : Key) (keys : List Key) (c : Contents) (w
       without_older : cached_of u.resources u.cached a.key ≡ None → IsInMemory key (cache_first r u)
       without_older e =
           let none : cached_of w.resources w.cached a.key ≡ None = (λ i. cached_of (sym u_resources i) (sym u_cached i) a.key) ∙ e in
-          let are : AreOfKeys same_is (end_in c) u.resources keys (r ∷ u.cached) = are_of u.resources u.cached (λ q some. ap (λ m. get m q) u_resources) (λ q. omega (arith, ap (occurrences q) u_cached))
-          (λ q b some b_at same. true≢false (sym (has_key-there same_is w.resources a.key q b b_at same) ∙ find-none (has_key w.resources a.key) w.cached q none (omega (arith, some, ap (occurrences q) u_cached)))) in
-          there_u (cache_first r u) (cache_first_same same_is (end_in c) keys r u are fits_u ∙ u_resources)
+          let are : AreOfKeys (end_in c) u.resources keys (r ∷ u.cached) = are_of u.resources u.cached (λ q some. ap (λ m. get m q) u_resources) (λ q. omega (arith, ap (occurrences q) u_cached))
+          (λ q b some b_at same. true≢false (sym (has_key-there w.resources a.key q b b_at same) ∙ find-none (has_key w.resources a.key) w.cached q none (omega (arith, some, ap (occurrences q) u_cached)))) in
+          there_u (cache_first r u) (cache_first_same (end_in c) keys r u are fits_u ∙ u_resources)
 
       in_place : (x : ℕ) → cached_of u.resources u.cached a.key ≡ Some x → IsInMemory key (cache_first r (to_pool x (record u { cached = without x u.cached })))
       in_place x e =
           let some_x : cached_of w.resources w.cached a.key ≡ Some x = (λ i. cached_of (sym u_resources i) (sym u_cached i) a.key) ∙ e in
           let found = find-passes (has_key w.resources a.key) w.cached x some_x in
-          let old = has_key-found same_is w.resources a.key x found.0 in
+          let old = has_key-found w.resources a.key x found.0 in
           let v : World = record u { cached = without x u.cached } in
           let ne_r : r ≢ x = λ same. absurd (omega (arith, found.1, ap (λ m. occurrences m w.cached) (sym same), not_cached)) in
           let x_at : get v.resources x ≡ Some old.0 = ap (λ m. get m x) u_resources ∙ old.1 in
@@ -141,11 +142,11 @@ module _ (same_is : SameIsEqual) (key : Key) (keys : List Key) (c : Contents) (w
           let same : (q : ℕ) → q ≢ x → get after.resources q ≡ get w.resources q = λ q ne. gone_other u.resources x q ne ∙ ap (λ m. get m q) u_resources in
           let not_x : (q : ℕ) → 0 < occurrences q left → q ≢ x = λ q some is. absurd (omega (arith, some, ap (λ m. occurrences m left) is, without_same x u.cached)) in
           let less : (q : ℕ) → occurrences q left ≤ occurrences q w.cached = λ q. omega (arith, without-le q x u.cached, ap (occurrences q) u_cached) in
-          let are : AreOfKeys same_is (end_in c) after.resources keys (r ∷ left) = are_of after.resources left
+          let are : AreOfKeys (end_in c) after.resources keys (r ∷ left) = are_of after.resources left
           (λ q some. elim (number_cases q r) [ inl is ↦ same q (λ h. ne_r (sym is ∙ h)) | inr ne ↦ same q (not_x q (omega (arith, some, one_if_other r q (λ h. ne (sym h))))) ])
           less
           (λ q b some b_at is. not_x q some (s.cached.apart q x b old.0 (omega (arith, some, less q)) found.1 b_at old.1 (is ∙ sym old.2))) in
-          let done : (cache_first r after).resources ≡ after.resources = cache_first_same same_is (end_in c) keys r after are fits_u in
+          let done : (cache_first r after).resources ≡ after.resources = cache_first_same (end_in c) keys r after are fits_u in
           let now : IsInMemory key (cache_first r after) = elim (number_cases there.0 x) [
             | inl is ↦
                 let mine : a.key ≡ key = sym old.2 ∙ ap (λ (b : Resource). b.key) (same_Some _ _ (sym old.1 ∙ ap (get w.resources) (sym is) ∙ there.2)) ∙ there.3 in
@@ -159,7 +160,7 @@ module _ (same_is : SameIsEqual) (key : Key) (keys : List Key) (c : Contents) (w
         | true ↦ λ e.
             let large : u.limits.memory ≤ a.allocation = leb-true _ _ e in
             let most : a.allocation ≤ 8 * walks.size_of (end_in c a.key) = allocated r a at in
-            let size : walks.size_of (end_in c a.key) ≤ total_size (end_in c) keys = size_within same_is (end_in c) a.key keys (within.resources r a at) in
+            let size : walks.size_of (end_in c a.key) ≤ total_size (end_in c) keys = size_within (end_in c) a.key keys (within.resources r a at) in
             absurd (omega (arith, large, most, size, fits_u.room))
         | false ↦ λ e. elim (cached_of u.resources u.cached a.key) as (λ o. cached_of u.resources u.cached a.key ≡ o → IsInMemory key (cache_first r (cached_to_pool o u))) [
           | None ↦ λ h. without_older h

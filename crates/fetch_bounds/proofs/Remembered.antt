@@ -5,7 +5,6 @@ use Rattle.engine_world.specs.World.{Limits, World, opening}
 use Rattle.engine_world.specs.declared.events.Event.{Event}
 use Rattle.load_cause.specs.Ends.{end_in}
 use Rattle.fetch_bounds.proofs.Keyed.{keyed_law}
-use Rattle.fetch_bounds.proofs.Keys.{SameIsEqual}
 use Rattle.fetch_bounds.proofs.Remaining.{there_law}
 use Rattle.fetch_bounds.specs.InMemory.{AllFit}
 use Rattle.fetch_bounds.specs.Laws.{KeepsAllRemembered, KeepsPictures}
@@ -20,6 +19,6 @@ keeps_all_remembered opening event keys w z who reply among step all =
       fit = subst (λ (l : Limits). AllFit (end_in all.content) l.memory keys) (sym (ap (λ (v : World). v.limits) fixed)) all.fit;
     }
 
-pub keeps_pictures : SameIsEqual → (event : Event) → KeepsPictures event
-keeps_pictures same event key keys w z known who reply s permits no_trim step all findable there =
-    there_law same key keys all.content w known s findable all.among all.told all.fit z who event reply permits no_trim step there
+pub keeps_pictures : (event : Event) → KeepsPictures event
+keeps_pictures event key keys w z known who reply s permits no_trim step all findable there =
+    there_law key keys all.content w known s findable all.among all.told all.fit z who event reply permits no_trim step there

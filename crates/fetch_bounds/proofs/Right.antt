@@ -18,13 +18,13 @@ use Rattle.load_table.specs.declared.loads.LoadState.TheVariants.{Failed, Waitin
 use Rattle.outside.specs.Content.{Contents}
 use Rattle.fetch_bounds.proofs.Changing.{failed_law}
 use Rattle.fetch_bounds.proofs.Entries.{work_knows}
-use Rattle.fetch_bounds.proofs.Maps.{gone_found, put_other}
 use Rattle.fetch_bounds.proofs.Seats.{Runs, runs, seat_law, there_known}
 use Rattle.fetch_bounds.specs.Follows.{IsWork}
 use Rattle.fetch_bounds.specs.Laws.{IsFree}
 use Rattle.load_cause.specs.declared.causes.Cause.TheVariants as causes
 use Rattle.engine_world.specs.declared.events.Event.TheVariants as events
 use Rattle.engine_world.specs.declared.events.NotedReply.TheVariants as replies
+use Rattle.engine_world.specs.NumberLaws.{gone_found, put_other}
 
 load_key : (spec : LoadSpec) (reply : NotedReply) (known : Knowledge) (n : ℕ) (own now : OwnLoad) → n ≢ known.begun → get known.loads n ≡ Some own → get (after_load spec reply known).loads n ≡ Some now → now.key ≡ own.key
 load_key spec replies.Full known n own now ne at then = ap (λ (l : OwnLoad). l.key) (same_Some _ _ (sym then ∙ at))

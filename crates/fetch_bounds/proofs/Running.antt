@@ -1,5 +1,6 @@
 -- Each job is given to a seat to run once at most: the jobs that were run, and those that are queued, were queued or started.
 use Rattle.std.proofs.Common.{Bool, List, None, Option, Some, [], ap, arith, cond, eqb, false, inl, inr, refl, subst, sym, true, true≢false, ℕ, ◌++◌, ◌+◌, ◌∙◌, ◌∷◌, ◌≡◌, ◌≤◌}
+use Rattle.std.proofs.lemmas.Bool.{and_parts}
 use Rattle.std.specs.Cmp.{nat_cmp_total}
 use Rattle.std.specs.FinMap.{get, insert, nat_cmp-IsAntisymmetric, remove}
 use Rattle.std.specs.Option.{is_none, option_map}
@@ -27,8 +28,7 @@ use Rattle.load_table.specs.Loads.{holders, owned, waiting}
 use Rattle.load_table.specs.declared.loads.LoadState.TheVariants.{Failed, Ready, Waiting}
 use Rattle.state_machine.specs.declared.entry.Entry.{Entry}
 use Rattle.fetch_bounds.proofs.Histories.{Goes, Grounds, Said}
-use Rattle.fetch_bounds.proofs.Maps.{and_left}
-use Rattle.fetch_bounds.proofs.Moves.{OutlastsEvictions, let_go-evicts, trim-evicts}
+use Rattle.engine_world.specs.KeptByMoves.{OutlastsEvictions, let_go-evicts, trim-evicts}
 use Rattle.fetch_bounds.specs.Costs.{asks_source, is_started, source_run, source_runs, source_start, source_starts}
 use Rattle.engine_world.specs.declared.events.Event.TheVariants as events
 use Rattle.job_table.specs.Jobs as job_table
@@ -74,7 +74,7 @@ table_seat (Some job) found e none = (job, refl, none_is _ (ap (λ (f : table.Jo
 queued_at-found : (jobs : Jobs) (priority : Priority) (j : ℕ) → job_table.queued_at priority (table_jobs jobs) ≡ Some j → (job : Job) × (get jobs j ≡ Some job) × (job.seat ≡ None)
 queued_at-found jobs priority j is =
     let found = first_key-found nat_cmp_total nat_cmp-IsAntisymmetric (λ i (job : table.Job). job_table.is_queued_at priority job) (table_jobs jobs) j is in
-    table_seat (get jobs j) found.0 (sym (get-map_values nat_cmp table_job jobs j) ∙ found.1) (and_left _ _ found.2)
+    table_seat (get jobs j) found.0 (sym (get-map_values nat_cmp table_job jobs j) ∙ found.1) (and_parts _ _ found.2).0
 
 next_queued-found : (jobs : Jobs) (j : ℕ) → next_queued jobs ≡ Some j → (job : Job) × (get jobs j ≡ Some job) × (job.seat ≡ None)
 next_queued-found jobs j is =

@@ -10,6 +10,7 @@ use Rattle.load_cause.specs.declared.causes.Cause.{Cause}
 use Rattle.load_table.specs.declared.loads.LoadState.TheVariants.{Waiting, Ready, Failed}
 use Rattle.load_table.specs.declared.loads.Settle.{Settle}
 use Rattle.load_table.specs.Loads.{LoadName, load_cmp, ready_on, state_of, settled, holders}
+use Rattle.load_table.specs.LoadOrder.{load_total, load_same}
 use Rattle.engine_world.specs.declared.events.Event.{Event}
 use Rattle.engine_world.specs.declared.events.NotedReply.{NotedReply}
 use Rattle.engine_world.specs.declared.events.Lent.{Lent}
@@ -18,7 +19,7 @@ use Rattle.engine_world.specs.Places.{one_if, occurrences, lent_numbers, is_held
 use Rattle.engine_world.specs.Knowledge.{OwnLoad, OwnJob, Knowledge, updated, knowledge_with}
 use Rattle.engine_world.specs.Permits.{IsRunning, IsResult}
 use Rattle.engine_world.specs.Sound.{LoadAgrees, LoadsAgree, JobAgrees, KnowledgeAgrees, Facts, Sound}
-use Rattle.fetch_bounds.proofs.Maps.{load_total, load_same, one_if_same}
+use Rattle.engine_world.specs.OccurrenceLaws.{one_if_same}
 
 -- ---- one seat
 

@@ -1,7 +1,8 @@
 -- A load of a picture that is there, or on its way, starts no job.
 use Rattle.std.proofs.Common.{Bool, None, Some, ap, cond, eqb, false, refl, sym, true, true≢false, ℕ, ◌<◌, ◌∙◌, ◌≡◌}
+use Rattle.std.proofs.lemmas.Bool.{and_from}
 use Rattle.std.specs.Cmp.{nat_cmp_total}
-use Rattle.std.specs.FinMap.{get, keys, nat_cmp-IsAntisymmetric}
+use Rattle.std.specs.FinMap.{get, nat_cmp-IsAntisymmetric}
 use Rattle.std.specs.Option.{option_map}
 use Rattle.std.specs.Ordering.{nat_cmp}
 use Rattle.std.specs.Prelude.{not}
@@ -15,12 +16,13 @@ use Rattle.finite_maps.specs.MapLaws.{first_key-none, get-map_values}
 use Rattle.job_table.specs.Jobs.{same_kind, serves}
 use Rattle.load_table.specs.Loads.{holders, owned}
 use Rattle.load_table.specs.declared.loads.LoadState.TheVariants.{Failed, Ready, Waiting}
-use Rattle.fetch_bounds.proofs.Keys.{SameIsEqual, has_key-there, same_key-of}
-use Rattle.fetch_bounds.proofs.Maps.{and_both, find-none, item_stands}
+use Rattle.cache_key.specs.KeyLaws.{same_key-of}
+use Rattle.engine_world.specs.KeyedLaws.{has_key-there, same_kind-itself}
 use Rattle.fetch_bounds.proofs.Seats.{is_holder, known_there}
 use Rattle.fetch_bounds.specs.Findable.{IsFindable}
 use Rattle.fetch_bounds.specs.Laws.{SharedLoadsStartNoJob}
 use Rattle.engine_world.specs.declared.events.NotedReply.TheVariants as replies
+use Rattle.engine_world.specs.OccurrenceLaws.{find-none, item_stands}
 use Rattle.std.specs.FinSet as set
 use Rattle.job_table.specs.declared.jobs.Job as table
 
@@ -48,32 +50,28 @@ module _ (w : World) (who : ℕ) (spec : LoadSpec) where
         | false ↦ ap (λ t. (cond t (load_from_jobs w who spec) (load_by_active w who spec active)).1.counts.started) looks ∙ by_active
       ]
 
-same_kind-itself : (cached : Bool) → same_kind cached cached ≡ true
-same_kind-itself true = refl
-same_kind-itself false = refl
-
 -- a load joins the job of its key and kind that is not cancelled
-pub job_for-none : (keys : SameIsEqual) (jobs : Jobs) (key : Key) (cached : Bool) (j : ℕ) (job : Job) → get jobs j ≡ Some job → job.cancelled ≡ false → job.spec.key ≡ key → job.spec.cached ≡ cached
+pub job_for-none : (jobs : Jobs) (key : Key) (cached : Bool) (j : ℕ) (job : Job) → get jobs j ≡ Some job → job.cancelled ≡ false → job.spec.key ≡ key → job.spec.cached ≡ cached
     → job_for jobs key cached ≡ None → ⊥
-job_for-none keys jobs key cached j job at live is kind none =
+job_for-none jobs key cached j job at live is kind none =
     let there : get (table_jobs jobs) j ≡ Some (table_job job) = get-map_values nat_cmp table_job jobs j ∙ ap (option_map table_job) at in
     let passes : serves key cached (table_job job) ≡ true =
-    and_both _ _ (and_both _ _ (same_key-of keys _ _ is) (ap (same_kind job.spec.cached) (sym kind) ∙ same_kind-itself job.spec.cached)) (ap not live) in
+    and_from _ _ (and_from _ _ (same_key-of _ _ is) (ap (same_kind job.spec.cached) (sym kind) ∙ same_kind-itself job.spec.cached)) (ap not live) in
     true≢false (sym passes ∙ first_key-none nat_cmp_total nat_cmp-IsAntisymmetric (λ k (b : table.Job). serves key cached b) (table_jobs jobs) j (table_job job) none there)
 
 -- a held resource of a findable key is found among the active ones
-pub active_of-none : (keys : SameIsEqual) (w : World) (key : Key) (r : ℕ) (a : Resource) → IsFindable key w → get w.resources r ≡ Some a → a.key ≡ key → 0 < holders r w.loads
+pub active_of-none : (w : World) (key : Key) (r : ℕ) (a : Resource) → IsFindable key w → get w.resources r ≡ Some a → a.key ≡ key → 0 < holders r w.loads
     → active_of w.resources w.active key ≡ None → ⊥
-active_of-none keys w key r a findable at is some none =
-    true≢false (sym (has_key-there keys w.resources key r a at is) ∙ find-none (has_key w.resources key) (set.items w.active) r none (item_stands w.active r (findable.active r a at is some)))
+active_of-none w key r a findable at is some none =
+    true≢false (sym (has_key-there w.resources key r a at is) ∙ find-none (has_key w.resources key) (set.items w.active) r none (item_stands w.active r (findable.active r a at is some)))
 
-pub shared_loads_start_no_job : SameIsEqual → SharedLoadsStartNoJob
-shared_loads_start_no_job keys w known seat spec s findable asks live =
+pub shared_loads_start_no_job : SharedLoadsStartNoJob
+shared_loads_start_no_job w known seat spec s findable asks live =
     let there = known_there w.jobs w.resources (get (known live.seat).loads live.number) (get w.loads (live.seat, live.number)) live.load live.is ((s.known_is live.seat).each live.number) in
     none_started w seat spec (asks.memory refl) (λ no_active no_cached no_job. found there.0 there.1 there.2.refers no_active no_job) where
       found : (state : LoadState) → get w.loads (live.seat, live.number) ≡ Some state → RefersTo w.jobs w.resources live.load state → active_of w.resources w.active spec.key ≡ None → job_for w.jobs spec.key spec.cached ≡ None → ⊥
       found (Waiting j) at refers no_active no_job =
           let is : refers.0.spec.key ≡ spec.key = refers.3 ∙ live.key_is in
-          job_for-none keys w.jobs spec.key spec.cached j refers.0 refers.1 refers.2 is ((findable.jobs j refers.0 refers.1).source is ∙ sym (asks.source refl)) no_job
-      found (Ready r) at refers no_active no_job = active_of-none keys w spec.key r refers.0 findable refers.1 (refers.2 ∙ live.key_is) (is_holder w.loads (live.seat, live.number) r at) no_active
+          job_for-none w.jobs spec.key spec.cached j refers.0 refers.1 refers.2 is ((findable.jobs j refers.0 refers.1).source is ∙ sym (asks.source refl)) no_job
+      found (Ready r) at refers no_active no_job = active_of-none w spec.key r refers.0 findable refers.1 (refers.2 ∙ live.key_is) (is_holder w.loads (live.seat, live.number) r at) no_active
       found (Failed cause) at refers no_active no_job = live.live cause at

@@ -12,6 +12,7 @@ use Rattle.engine_world.specs.Steps.{Transition, load, quota_of}
 use Rattle.engine_world.specs.World.{Limits, World, opening}
 use Rattle.engine_world.specs.declared.events.Event.{Event}
 use Rattle.engine_world.specs.declared.events.Note.{Note}
+use Rattle.engine_world.specs.NumberLaws.{gone_found, gone_other, none_at, put_cases, put_other, put_same}
 use Rattle.load_table.specs.Loads.{owned}
 use Rattle.outside.specs.Content.{Contents}
 use Rattle.script_walk.specs.Orderly.{In, without_begin}
@@ -20,7 +21,6 @@ use Rattle.state_machine.specs.declared.entry.Entry.{Entry}
 use Rattle.fetch_bounds.proofs.Entries.{Adds, Knows, load_adds, work_knows}
 use Rattle.fetch_bounds.proofs.Following.{IsStep, known_after}
 use Rattle.fetch_bounds.proofs.Histories.{Grounds, Said}
-use Rattle.fetch_bounds.proofs.Maps.{gone_found, gone_other, none_at, put_cases, put_other, put_same}
 use Rattle.fetch_bounds.proofs.Seats.{at_each_seat, next_is_new, own_law, seat_law}
 use Rattle.fetch_bounds.proofs.Starting.{IsMore, full_not, load_more}
 use Rattle.fetch_bounds.specs.Follows.{IsLoadBy, IsLoadOf, IsReleaseOf, IsTrimTo, IsWork}

@@ -8,10 +8,10 @@ use Rattle.cache_key.specs.Key.{Key, same_key}
 use Rattle.engine_world.specs.Moves.{allocation_of, size_of}
 use Rattle.engine_world.specs.Places.{occurrences, one_if}
 use Rattle.engine_world.specs.World.{Resource}
+use Rattle.engine_world.specs.OccurrenceLaws.{one_if_same}
 use Rattle.script_walk.specs.Marks.{KeyResults}
 use Rattle.script_walk.specs.Starts.{total_size}
-use Rattle.fetch_bounds.proofs.Keys.{SameIsEqual, same_key-is, same_key-of}
-use Rattle.fetch_bounds.proofs.Maps.{one_if_same}
+use Rattle.cache_key.specs.KeyLaws.{same_key-is, same_key-of}
 use Rattle.fetch_bounds.specs.InMemory.{IsAmong}
 use Rattle.script_walk.specs.Starts as walks
 
@@ -21,22 +21,21 @@ abbrev pub drop_key : Key → List Key → List Key
 drop_key key [] = []
 drop_key key (k ∷ ks) = cond (same_key k key) ks (k ∷ drop_key key ks)
 
-module _ (keys : SameIsEqual) where
-  among_left : (other key : Key) (ks : List Key) → other ≢ key → IsAmong other ks → IsAmong other (drop_key key ks)
-  among_left other key [] ne h = h
-  among_left other key (k ∷ ks) ne h = elim (same_key k key) as (λ t. same_key k key ≡ t → IsAmong other (cond t ks (k ∷ drop_key key ks))) [
-    | true ↦ λ e. elim h [ inl is ↦ absurd (ne (is ∙ same_key-is keys k key e)) | inr is ↦ is ]
-    | false ↦ λ e. elim h [ inl is ↦ inl is | inr is ↦ inr (among_left other key ks ne is) ]
-  ] refl
+among_left : (other key : Key) (ks : List Key) → other ≢ key → IsAmong other ks → IsAmong other (drop_key key ks)
+among_left other key [] ne h = h
+among_left other key (k ∷ ks) ne h = elim (same_key k key) as (λ t. same_key k key ≡ t → IsAmong other (cond t ks (k ∷ drop_key key ks))) [
+  | true ↦ λ e. elim h [ inl is ↦ absurd (ne (is ∙ same_key-is k key e)) | inr is ↦ is ]
+  | false ↦ λ e. elim h [ inl is ↦ inl is | inr is ↦ inr (among_left other key ks ne is) ]
+] refl
 
-module _ (keys : SameIsEqual) (content : KeyResults) where
+module _ (content : KeyResults) where
   parts : (key : Key) (ks : List Key) → IsAmong key ks → (walks.size_of (content key) + total_size content (drop_key key ks) ≡ total_size content ks) × (1 + length (drop_key key ks) ≡ length ks)
   parts key [] h = absurd h
   parts key (k ∷ ks) h = elim (same_key k key) as (λ t. same_key k key ≡ t
       → (walks.size_of (content key) + total_size content (cond t ks (k ∷ drop_key key ks)) ≡ walks.size_of (content k) + total_size content ks) × (1 + length (cond t ks (k ∷ drop_key key ks)) ≡ length (k ∷ ks))) [
-        | true ↦ λ e. (ap (λ q. walks.size_of (content q) + total_size content ks) (sym (same_key-is keys k key e)), omega arith)
+        | true ↦ λ e. (ap (λ q. walks.size_of (content q) + total_size content ks) (sym (same_key-is k key e)), omega arith)
         | false ↦ λ e. elim h [
-          | inl is ↦ absurd (true≢false (sym (same_key-of keys k key (sym is)) ∙ e))
+          | inl is ↦ absurd (true≢false (sym (same_key-of k key (sym is)) ∙ e))
           | inr is ↦ let rest = parts key ks is in
               let size : walks.size_of (content key) + total_size content (drop_key key ks) ≡ total_size content ks = rest.0 in
               let count : 1 + length (drop_key key ks) ≡ length ks = rest.1 in
@@ -69,7 +68,7 @@ module _ (keys : SameIsEqual) (content : KeyResults) where
       let rest : FitsKeys resources (drop_key key ks) rs = fit_keys resources rs (drop_key key ks) (record {
         each = λ q some.
             let old = are.each q (omega (arith, some)) in
-            (old.0, old.1, among_left keys old.0.key key ks (λ same. absurd (omega (arith, some, alone, ap (λ n. occurrences n rs) (are.apart q r old.0 first.0 (omega (arith, some)) (omega (arith, here)) old.1 first.1 same)))) old.2, old.3);
+            (old.0, old.1, among_left old.0.key key ks (λ same. absurd (omega (arith, some, alone, ap (λ n. occurrences n rs) (are.apart q r old.0 first.0 (omega (arith, some)) (omega (arith, here)) old.1 first.1 same)))) old.2, old.3);
         apart = λ p q a b p_in q_in. are.apart p q a b (omega (arith, p_in)) (omega (arith, q_in));
         once = λ q. omega (arith, are.once q);
       }) in

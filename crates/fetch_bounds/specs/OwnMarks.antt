@@ -15,7 +15,8 @@ use Rattle.fetch_bounds.specs.Laws.{Run, events_of, IsRun, FailuresAreMarked, So
 -- The pictures that begins came to are those that the content gives their keys.
 abbrev pub PicturesAreRight : Run → Type 0
 PicturesAreRight run = EachEnd
-    (λ begin result. (picture : Picture) → result ≡ Ok picture → end_in run.content begin.spec.key ≡ Ok picture)
+    (λ begin result. (picture : Picture) → result ≡ Ok picture
+    → end_in run.content begin.spec.key ≡ Ok picture)
     (events_of run)
 
 module _ {M Reply : Type 0} (world : M → World) (history : M → List (Entry Note))

@@ -5,7 +5,6 @@ ghost use Rattle.fetch_bounds.specs.Parts.{TracesJoin};
 ghost use Rattle.fetch_bounds.specs.OwnMarks.{RunsMarkThemselves};
 ghost use Rattle.fetch_bounds.specs.Laws.{SharedLoadsStartNoJob, OpensFindable, KeepsFindable, KeepsAllRemembered, KeepsPictures, RunsAreBounded, FailedJobsSuffice};
 
-use cache_key::same_key_is_equality;
 use engine_world::{each_event_keeps_opening, each_event_keeps_sound, each_history_is_sound};
 use script_walk::{begins_run_together, ends_decide_the_walk, traces_are_orderly};
 
@@ -15,16 +14,13 @@ pub fn loads_are_shared()
     ensures shared { SharedLoadsStartNoJob }
     ensures opening { OpensFindable }
     ensures event { (event : Event) → KeepsFindable event }
-{
-    same_key_is_equality();
-}
+{}
 
 /// Where all pictures fit into the memory cache, one that is there stays there through each event but a trim.
 pub fn pictures_stay_in_memory()
     ensures among { (event : Event) → KeepsAllRemembered event }
     ensures stay { (event : Event) → KeepsPictures event }
 {
-    same_key_is_equality();
     each_event_keeps_opening();
 }
 
@@ -46,7 +42,6 @@ pub fn followed_traces_are_answered()
 pub fn runs_are_bounded<M, R>()
     ensures { RunsAreBounded M R }
 {
-    same_key_is_equality();
     each_event_keeps_sound();
     each_event_keeps_opening();
     each_history_is_sound::<M, R>();
@@ -57,7 +52,6 @@ pub fn runs_are_bounded<M, R>()
 pub fn failed_jobs_suffice<M, R>()
     ensures { FailedJobsSuffice M R }
 {
-    same_key_is_equality();
     each_event_keeps_sound();
     each_event_keeps_opening();
     each_history_is_sound::<M, R>();
@@ -70,7 +64,6 @@ pub fn failed_jobs_suffice<M, R>()
 pub fn runs_mark_themselves<M, R>()
     ensures { RunsMarkThemselves M R }
 {
-    same_key_is_equality();
     each_event_keeps_sound();
     each_event_keeps_opening();
     each_history_is_sound::<M, R>();

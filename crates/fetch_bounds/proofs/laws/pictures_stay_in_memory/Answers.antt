@@ -5,4 +5,4 @@ pub returns-clause-among : goal.returns-clause-among
 returns-clause-among c = keeps_all_remembered c.each_event_keeps_opening.ensures
 
 pub returns-clause-stay : goal.returns-clause-stay
-returns-clause-stay c = keeps_pictures c.same_key_is_equality.ensures
+returns-clause-stay c = keeps_pictures
