@@ -139,7 +139,7 @@ impl Tables {
         requires { IsShown self.now who number }
         ensures shown { noted result
             ≡ shown self.now (λ picture. notes.Piece (piece_from at picture))
-              (get self.now.loads (who, number)) }
+            (get self.now.loads (who, number)) }
         ensures padded { IsPaddedReply result }
     {
         match self.loads.state(who, number) {

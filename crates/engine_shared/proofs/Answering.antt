@@ -20,7 +20,8 @@ use Rattle.engine_shared.specs.Caller.{Caller, knowledge_of, HasReadyLoad}
 use Rattle.engine_shared.specs.Answers.{IsAsAsked}
 use Rattle.engine_shared.specs.Replied.{RepliesToCollect, RepliesToLoad, RepliesToLook, RepliesToRead, RepliesToTake}
 use Rattle.engine_shared.specs.CallLaws.{LoadsAreAnswered, CollectsAreAnswered, LooksAreAnswered, ReadsAreAnswered, TakesAreAnswered, TakesAsAsked}
-use Rattle.engine_shared.proofs.EngineLaws.{EngineLaws, sound_in}
+use Rattle.engine_shared.specs.inside.EngineLaws.{EngineLaws}
+use Rattle.engine_shared.proofs.EngineLaws.{sound_in}
 use Rattle.engine_shared.proofs.Steps.{known_beside}
 use Rattle.engine_shared.proofs.Loading.{load_replies}
 use Rattle.engine_shared.proofs.Looking.{answered}

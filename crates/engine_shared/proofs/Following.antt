@@ -16,15 +16,17 @@ use Rattle.engine_world.specs.Knowledge.{OwnLoad, OwnJob, Knowledge, knowledge_i
 use Rattle.engine_world.specs.Permits.{IsRunning, IsPicture}
 use Rattle.engine_world.specs.Sound.{Sound}
 use Rattle.engine_world.specs.Laws as world_laws
+use Rattle.engine_world.specs.NumberLaws.{put_same}
 use Rattle.engine_shared.specs.Tokens.{HoldValue}
 use Rattle.engine_shared.specs.Caller.{Caller, knowledge_of, content_of, IsLegal, HasLoad}
 use Rattle.engine_shared.specs.Answers.{IsOther}
 use Rattle.engine_shared.specs.CallLaws.{FullExactly, LoadsAreOwn, JobsAreOwn, TakesAnother, ReadyLoadsShow, LoadsStay, ReadyLoadsStay}
-use Rattle.engine_shared.proofs.EngineLaws.{EngineLaws, sound_in, sound_of}
+use Rattle.engine_shared.specs.inside.EngineLaws.{EngineLaws}
+use Rattle.engine_shared.proofs.EngineLaws.{sound_in, sound_of}
 use Rattle.engine_shared.proofs.Loading.{full_where}
 use Rattle.engine_shared.proofs.Steps.{fixed_along, known_beside}
 use Rattle.engine_shared.proofs.Pictures.{shows_its_picture}
-use Rattle.engine_shared.proofs.Staying.{put_same, stays}
+use Rattle.engine_shared.proofs.Staying.{stays}
 
 -- ---- a bitmap that is taken
 

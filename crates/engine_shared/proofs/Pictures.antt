@@ -17,7 +17,8 @@ use Rattle.engine_world.specs.Laws.{IsHold, IsRelease, NoRelease, ShowsItsKey}
 use Rattle.engine_core.specs.CoreView.{note_of}
 use Rattle.engine_shared.specs.Caller.{Caller, shown_by, engine, Leads, IsLegal, entry_of}
 use Rattle.engine_shared.specs.CallLaws.{ShowsItsPicture, ShowsOnePicture, StepsAreCalls, caller_after}
-use Rattle.engine_shared.proofs.EngineLaws.{EngineLaws, sound_of}
+use Rattle.engine_shared.specs.inside.EngineLaws.{EngineLaws}
+use Rattle.engine_shared.proofs.EngineLaws.{sound_of}
 use Rattle.engine_shared.proofs.Steps.{some_in, last_or_before, fixed_along, own_has, known_beside, known_after}
 
 -- what a load that is ready on a resource shows

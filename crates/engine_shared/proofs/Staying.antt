@@ -11,9 +11,7 @@ use Rattle.engine_world.specs.declared.events.NotedReply.{NotedReply}
 use Rattle.engine_world.specs.declared.events.NotedReply.TheVariants as replies
 use Rattle.engine_world.specs.Knowledge.{OwnLoad, Knowledge, with_load, after_load, with_ready, after_collect, after_next_job, after_take, after_is_cancelled, updated}
 use Rattle.engine_world.specs.Laws.{IsRelease}
-
-pub put_same : (m : FinMap nat_cmp OwnLoad) (n : ℕ) (load : OwnLoad) → get (insert m n load) n ≡ Some load
-put_same m n load = get-insert_same nat_cmp_total nat_cmp-IsAntisymmetric m n load
+use Rattle.engine_world.specs.NumberLaws.{put_same}
 
 -- the load is there still, and was answered Ready where it was before
 pub record StaysOwn (k : Knowledge) (n : ℕ) (load : OwnLoad) : Type 0 where

@@ -9,3 +9,4 @@ pub mod Kinds
 pub mod CallLaws
 pub mod Owned
 pub mod Replied
+pub mod inside

@@ -1,5 +1,6 @@
 // The laws of callers, each as the contract of a function that calls the laws that it follows from.
 ghost use Rattle.engine_shared.specs.CallLaws.{ShowsItsPicture, ShowsOnePicture, StepsAreCalls, LoadsAreAnswered, CollectsAreAnswered, LooksAreAnswered, ReadsAreAnswered, TakesAreAnswered, FullExactly, LoadsAreOwn, JobsAreOwn, TakesAnother, TakesAsAsked, ReadyLoadsShow, LooksAtIt, ReadsIt, LoadsStay, ReadyLoadsStay, LoadsAreCounted, OthersCountNone, JobsStay, JobsEnd};
+ghost use Rattle.engine_shared.specs.inside.EngineLaws.{EngineLaws};
 
 use engine_core::{Core, Reply};
 use engine_world::{
@@ -8,11 +9,9 @@ use engine_world::{
 };
 use state_machine::{legal_histories_grow, own_entries_append, steps_append};
 
-/// A load that its caller was answered `Ready` for shows the picture of its key, where the content is told, and one picture
-/// until its caller releases it.
-pub fn holds_show_one_picture()
-    ensures right { ShowsItsPicture }
-    ensures one { ShowsOnePicture }
+// The laws of the engine's world and of histories that the laws of callers follow from.
+fn engine_laws()
+    ensures { EngineLaws }
 {
     each_history_is_sound::<Core, Reply>();
     each_history_keeps_holds::<Core, Reply>();
@@ -23,17 +22,20 @@ pub fn holds_show_one_picture()
     legal_histories_grow::<Core>();
 }
 
+/// A load that its caller was answered `Ready` for shows the picture of its key, where the content is told, and one picture
+/// until its caller releases it.
+pub fn holds_show_one_picture()
+    ensures right { ShowsItsPicture }
+    ensures one { ShowsOnePicture }
+{
+    engine_laws();
+}
+
 /// From a legal history, the steps of others and then one of the caller's that it is permitted are a call.
 pub fn calls_add_entries()
     ensures { StepsAreCalls }
 {
-    each_history_is_sound::<Core, Reply>();
-    each_history_keeps_holds::<Core, Reply>();
-    ready_loads_show_their_keys();
-    each_event_keeps_opening();
-    own_entries_append::<Note>();
-    steps_append::<Core>();
-    legal_histories_grow::<Core>();
+    engine_laws();
 }
 
 /// Each call has one of the replies that its answer has a word for.
@@ -44,13 +46,7 @@ pub fn calls_are_answered()
     ensures reads { ReadsAreAnswered }
     ensures takes { TakesAreAnswered }
 {
-    each_history_is_sound::<Core, Reply>();
-    each_history_keeps_holds::<Core, Reply>();
-    ready_loads_show_their_keys();
-    each_event_keeps_opening();
-    own_entries_append::<Note>();
-    steps_append::<Core>();
-    legal_histories_grow::<Core>();
+    engine_laws();
 }
 
 /// What the contracts of the calls say besides of loads, jobs and bitmaps follows from the entries that they add. Callers use
@@ -67,13 +63,7 @@ pub fn calls_tell_what_they_add()
     ensures stay { LoadsStay }
     ensures stay_ready { ReadyLoadsStay }
 {
-    each_history_is_sound::<Core, Reply>();
-    each_history_keeps_holds::<Core, Reply>();
-    ready_loads_show_their_keys();
-    each_event_keeps_opening();
-    own_entries_append::<Note>();
-    steps_append::<Core>();
-    legal_histories_grow::<Core>();
+    engine_laws();
     taken_bitmaps_were_free();
 }
 

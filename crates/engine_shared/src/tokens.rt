@@ -117,7 +117,13 @@ impl Model for JobPass {
 
     ghost Value = { OwnJob };
 
-    ghost view = { λ s. record { number = s.number; spec = s.room; takes = s.takes; out = s.out.value; cancelled = s.cancelled } };
+    ghost view = { λ s. record {
+      number = s.number;
+      spec = s.room;
+      takes = s.takes;
+      out = s.out.value;
+      cancelled = s.cancelled;
+    } };
 }
 
 impl JobPass {

@@ -1,4 +1,4 @@
-use Rattle.engine_shared.proofs.EngineLaws.{EngineLaws}
+use Rattle.engine_shared.specs.inside.EngineLaws.{EngineLaws}
 use Rattle.engine_shared.proofs.Following.{full_exactly, loads_are_own, jobs_are_own, takes_another, ready_loads_show, loads_stay, ready_loads_stay}
 use Rattle.engine_shared.proofs.Looking.{looks_at_it, reads_it}
 use Rattle.engine_shared.proofs.Answering.{takes_as_asked}
@@ -6,15 +6,7 @@ use Rattle.engine_shared.proofs.laws.calls_tell_what_they_add.Goals as goal
 
 pub returns : goal.returns
 returns c =
-    let laws : EngineLaws = record {
-      sound = c.each_history_is_sound.ensures.sound;
-      holds = c.each_history_keeps_holds.ensures;
-      shows = c.ready_loads_show_their_keys.ensures;
-      opening = c.each_event_keeps_opening.ensures;
-      own = c.own_entries_append.ensures;
-      join = c.steps_append.ensures.join;
-      grow = c.legal_histories_grow.ensures;
-    } in
+    let laws : EngineLaws = c.engine_laws.ensures in
     record {
       full = full_exactly laws;
       loads = loads_are_own laws;

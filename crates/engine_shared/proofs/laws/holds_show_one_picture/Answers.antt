@@ -1,16 +1,5 @@
-use Rattle.engine_shared.proofs.EngineLaws.{EngineLaws}
 use Rattle.engine_shared.proofs.Pictures.{shows_its_picture, shows_one_picture}
 use Rattle.engine_shared.proofs.laws.holds_show_one_picture.Goals as goal
 
 pub returns : goal.returns
-returns c =
-    let laws : EngineLaws = record {
-      sound = c.each_history_is_sound.ensures.sound;
-      holds = c.each_history_keeps_holds.ensures;
-      shows = c.ready_loads_show_their_keys.ensures;
-      opening = c.each_event_keeps_opening.ensures;
-      own = c.own_entries_append.ensures;
-      join = c.steps_append.ensures.join;
-      grow = c.legal_histories_grow.ensures;
-    } in
-    record { right = shows_its_picture laws; one = shows_one_picture laws }
+returns c = record { right = shows_its_picture c.engine_laws.ensures; one = shows_one_picture c.engine_laws.ensures }
