@@ -123,7 +123,8 @@ fn transformed<E: EngineCalls>(
         pass.old.spec.key.transform pass.old.spec.key.width pass.old.spec.key.height }
     ensures runs { StillRuns (E.caller engine.old) pass.old (E.caller engine.new) pass.new }
     ensures picture { IfOk result (λ shown. shown.picture
-        ≡ moved decoded.picture pass.old.spec.key.transform pass.old.spec.key.width pass.old.spec.key.height) }
+        ≡ moved decoded.picture pass.old.spec.key.transform
+        pass.old.spec.key.width pass.old.spec.key.height) }
     ensures out { IfOk result (λ shown. IsResult shown pass.new.out) }
     ensures none { IfErr result (λ stop. pass.new.out ≡ []) }
     ensures stops { IfErr result (λ stop. StopsTaking pass.new stop) }
