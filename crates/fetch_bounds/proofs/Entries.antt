@@ -19,19 +19,19 @@ use Rattle.engine_world.specs.declared.events.Event.TheVariants as events
 use Rattle.engine_world.specs.declared.events.NotedReply.TheVariants as replies
 use Rattle.engine_world.specs.NumberLaws.{number_cases, put_cases, put_other, put_same}
 
--- It knows as many loads as before, and each with its key.
+-- It knows as many loads as before, and each with its key and kind.
 pub record Knows (old new : Knowledge) : Type 0 where
   pub begun : new.begun ≡ old.begun
   pub size : len new.loads ≡ len old.loads
-  pub kept : (n : ℕ) (own : OwnLoad) → get old.loads n ≡ Some own → (now : OwnLoad) × (get new.loads n ≡ Some now) × (now.key ≡ own.key)
-  pub known : (n : ℕ) (now : OwnLoad) → get new.loads n ≡ Some now → (own : OwnLoad) × (get old.loads n ≡ Some own) × (now.key ≡ own.key)
+  pub kept : (n : ℕ) (own : OwnLoad) → get old.loads n ≡ Some own → (now : OwnLoad) × (get new.loads n ≡ Some now) × (now.key ≡ own.key) × (now.cached ≡ own.cached)
+  pub known : (n : ℕ) (now : OwnLoad) → get new.loads n ≡ Some now → (own : OwnLoad) × (get old.loads n ≡ Some own) × (now.key ≡ own.key) × (now.cached ≡ own.cached)
 
 same_loads : (old new : Knowledge) → new.begun ≡ old.begun → new.loads ≡ old.loads → Knows old new
 same_loads old new begun loads = record {
   begun = begun;
   size = ap (λ m. len m) loads;
-  kept = λ n own at. (own, ap (λ m. get m n) loads ∙ at, refl);
-  known = λ n now at. (now, ap (λ m. get m n) (sym loads) ∙ at, refl);
+  kept = λ n own at. (own, ap (λ m. get m n) loads ∙ at, refl, refl);
+  known = λ n now at. (now, ap (λ m. get m n) (sym loads) ∙ at, refl, refl);
 }
 
 with_ready_knows : (n : ℕ) (o : Option OwnLoad) (known : Knowledge) → get known.loads n ≡ o → Knows known (with_ready n o known)
@@ -42,12 +42,14 @@ with_ready_knows n (Some load) known e =
       begun = refl;
       size = len-insert nat_cmp_total known.loads n _ ∙ ap (λ o. cond (is_some o) (len known.loads) (len known.loads + 1)) e;
       kept = λ m own at. elim (number_cases m n) [
-        | inl is ↦ (told, ap (get (insert known.loads n told)) is ∙ put_same known.loads n told, ap (λ (l : OwnLoad). l.key) (same_Some _ _ (sym e ∙ ap (get known.loads) (sym is) ∙ at)))
-        | inr ne ↦ (own, put_other known.loads n told m ne ∙ at, refl)
+        | inl is ↦
+            let same : load ≡ own = same_Some _ _ (sym e ∙ ap (get known.loads) (sym is) ∙ at) in
+            (told, ap (get (insert known.loads n told)) is ∙ put_same known.loads n told, ap (λ (l : OwnLoad). l.key) same, ap (λ (l : OwnLoad). l.cached) same)
+        | inr ne ↦ (own, put_other known.loads n told m ne ∙ at, refl, refl)
       ];
       known = λ m now at. elim (put_cases known.loads n told m now at) [
-        | inl h ↦ (load, ap (get known.loads) h.0 ∙ e, ap (λ (l : OwnLoad). l.key) (sym h.1))
-        | inr h ↦ (now, h.1, refl)
+        | inl h ↦ (load, ap (get known.loads) h.0 ∙ e, ap (λ (l : OwnLoad). l.key) (sym h.1), ap (λ (l : OwnLoad). l.cached) (sym h.1))
+        | inr h ↦ (now, h.1, refl, refl)
       ];
     }
 

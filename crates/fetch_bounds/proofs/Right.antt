@@ -18,7 +18,8 @@ use Rattle.load_table.specs.declared.loads.LoadState.TheVariants.{Failed, Waitin
 use Rattle.outside.specs.Content.{Contents}
 use Rattle.fetch_bounds.proofs.Changing.{failed_law}
 use Rattle.fetch_bounds.proofs.Entries.{work_knows}
-use Rattle.fetch_bounds.proofs.Seats.{Runs, runs, seat_law, there_known}
+use Rattle.fetch_bounds.proofs.Maps.{gone_found, put_other}
+use Rattle.fetch_bounds.proofs.Seats.{Runs, at_each_seat, runs, there_known}
 use Rattle.fetch_bounds.specs.Follows.{IsWork}
 use Rattle.fetch_bounds.specs.Laws.{IsFree}
 use Rattle.load_cause.specs.declared.causes.Cause.TheVariants as causes
@@ -26,23 +27,38 @@ use Rattle.engine_world.specs.declared.events.Event.TheVariants as events
 use Rattle.engine_world.specs.declared.events.NotedReply.TheVariants as replies
 use Rattle.engine_world.specs.NumberLaws.{gone_found, put_other}
 
-load_key : (spec : LoadSpec) (reply : NotedReply) (known : Knowledge) (n : ℕ) (own now : OwnLoad) → n ≢ known.begun → get known.loads n ≡ Some own → get (after_load spec reply known).loads n ≡ Some now → now.key ≡ own.key
-load_key spec replies.Full known n own now ne at then = ap (λ (l : OwnLoad). l.key) (same_Some _ _ (sym then ∙ at))
-load_key spec replies.Ready known n own now ne at then = ap (λ (l : OwnLoad). l.key) (same_Some _ _ (sym then ∙ put_other known.loads known.begun (own_load spec true) n ne ∙ at))
-load_key spec reply known n own now ne at then = ap (λ (l : OwnLoad). l.key) (same_Some _ _ (sym then ∙ put_other known.loads known.begun (own_load spec false) n ne ∙ at))
+-- It asks for the same: it has the key, and is for what is cached alone or not.
+abbrev pub AsksSame : OwnLoad → OwnLoad → Type 0
+AsksSame now own = (now.key ≡ own.key) × (now.cached ≡ own.cached)
 
-work_key : (event : Event) (reply : NotedReply) (known : Knowledge) (n : ℕ) (own now : OwnLoad) → IsWork event → get known.loads n ≡ Some own → get (updated event reply known).loads n ≡ Some now → now.key ≡ own.key
-work_key event reply known n own now is at then =
+same_asks : (now own : OwnLoad) → now ≡ own → AsksSame now own
+same_asks now own same = (ap (λ (l : OwnLoad). l.key) same, ap (λ (l : OwnLoad). l.cached) same)
+
+load_asks : (spec : LoadSpec) (reply : NotedReply) (known : Knowledge) (n : ℕ) (own now : OwnLoad) → n ≢ known.begun → get known.loads n ≡ Some own → get (after_load spec reply known).loads n ≡ Some now → AsksSame now own
+load_asks spec replies.Full known n own now ne at then = same_asks now own (same_Some _ _ (sym then ∙ at))
+load_asks spec replies.Ready known n own now ne at then = same_asks now own (same_Some _ _ (sym then ∙ put_other known.loads known.begun (own_load spec true) n ne ∙ at))
+load_asks spec reply known n own now ne at then = same_asks now own (same_Some _ _ (sym then ∙ put_other known.loads known.begun (own_load spec false) n ne ∙ at))
+
+work_asks : (event : Event) (reply : NotedReply) (known : Knowledge) (n : ℕ) (own now : OwnLoad) → IsWork event → get known.loads n ≡ Some own → get (updated event reply known).loads n ≡ Some now → AsksSame now own
+work_asks event reply known n own now is at then =
     let old = (work_knows event reply known is).known n now then in
-    old.2 ∙ ap (λ (l : OwnLoad). l.key) (same_Some _ _ (sym old.1 ∙ at))
+    let same = same_asks old.0 own (same_Some _ _ (sym old.1 ∙ at)) in
+    (old.2 ∙ same.0, old.3 ∙ same.1)
 
--- the key of a load stays
-key_stays : (event : Event) (reply : NotedReply) (known : Knowledge) (n : ℕ) (own now : OwnLoad) → ((m : ℕ) (load : OwnLoad) → get known.loads m ≡ Some load → m < known.begun)
-    → get known.loads n ≡ Some own → get (updated event reply known).loads n ≡ Some now → now.key ≡ own.key
-key_stays (events.Load spec) reply known n own now below at then = load_key spec reply known n own now (λ is. absurd (omega (arith, below n own at, is))) at then
-key_stays (events.Release m) reply known n own now below at then = ap (λ (l : OwnLoad). l.key) (same_Some _ _ (sym (gone_found known.loads m n now then).1 ∙ at))
-key_stays (events.Trim level) reply known n own now below at then = ap (λ (l : OwnLoad). l.key) (same_Some _ _ (sym then ∙ at))
-key_stays event reply known n own now below at then = work_key event reply known n own now tt at then
+own_asks : (event : Event) (reply : NotedReply) (known : Knowledge) (n : ℕ) (own now : OwnLoad) → ((m : ℕ) (load : OwnLoad) → get known.loads m ≡ Some load → m < known.begun)
+    → get known.loads n ≡ Some own → get (updated event reply known).loads n ≡ Some now → AsksSame now own
+own_asks (events.Load spec) reply known n own now below at then = load_asks spec reply known n own now (λ is. absurd (omega (arith, below n own at, is))) at then
+own_asks (events.Release m) reply known n own now below at then = same_asks now own (same_Some _ _ (sym (gone_found known.loads m n now then).1 ∙ at))
+own_asks (events.Trim level) reply known n own now below at then = same_asks now own (same_Some _ _ (sym then ∙ at))
+own_asks event reply known n own now below at then = work_asks event reply known n own now tt at then
+
+-- a load asks for the same through each entry
+pub still_asks : (w : World) (known : ℕ → Knowledge) → Sound w known → (who : ℕ) (event : Event) (reply : NotedReply) (seat n : ℕ) (own now : OwnLoad)
+    → get (known seat).loads n ≡ Some own → get (knowledge_with known who event reply seat).loads n ≡ Some now → AsksSame now own
+still_asks w known s who event reply seat n own now at then =
+    at_each_seat (λ q kn. (l : OwnLoad) → get (known q).loads n ≡ Some l → get kn.loads n ≡ Some now → AsksSame now l) known who event reply
+    (λ q ne l l_at now_at. same_asks now l (same_Some _ _ (sym now_at ∙ l_at)))
+    (λ l l_at now_at. own_asks event reply (known who) n l now (s.known_is who).below l_at now_at) seat own at then
 
 module _ (c : Contents) where
   -- Each load of seat 0 that has failed is right.
@@ -53,10 +69,7 @@ module _ (c : Contents) where
       → AllRight w (known 0) → AllRight m (knowledge_with known who event reply 0)
   right_law w m known who event reply s told permits step right n now cause now_at failed =
       let knows = s.known_is 0 in
-      let key_is : (own : OwnLoad) → get (known 0).loads n ≡ Some own → now.key ≡ own.key = λ own own_at.
-      seat_law (λ kn. (l : OwnLoad) → get kn.loads n ≡ Some l → l.key ≡ own.key) known who event reply
-      (λ l l_at. ap (λ (x : OwnLoad). x.key) (same_Some _ _ (sym l_at ∙ own_at)))
-      (λ l l_at. key_stays event reply (known 0) n own l knows.below own_at l_at) now now_at in
+      let key_is : (own : OwnLoad) → get (known 0).loads n ≡ Some own → now.key ≡ own.key = λ own own_at. (still_asks w known s who event reply 0 n own now own_at now_at).0 in
       elim (failed_law w m (0, n) cause who event reply step failed) [
         | inl before ↦
             let old = there_known w.jobs w.resources (get (known 0).loads n) (get w.loads (0, n)) (Failed cause) before (knows.each n) in

@@ -25,9 +25,9 @@ use Rattle.fetch_bounds.proofs.Seats.{at_each_seat, next_is_new, own_law, seat_l
 use Rattle.fetch_bounds.proofs.Starting.{IsMore, full_not, load_more}
 use Rattle.fetch_bounds.specs.Follows.{IsLoadBy, IsLoadOf, IsReleaseOf, IsTrimTo, IsWork}
 
--- A seat knows the load of a begin, with its key.
+-- A seat knows the load of a begin, with its key and kind.
 abbrev pub IsKnown : Knowledge → Begin → Type 0
-IsKnown known b = (n : ℕ) × IsLoadOf b n × (own : OwnLoad) × (get known.loads n ≡ Some own) × (own.key ≡ b.spec.key)
+IsKnown known b = (n : ℕ) × IsLoadOf b n × (own : OwnLoad) × (get known.loads n ≡ Some own) × (own.key ≡ b.spec.key) × (own.cached ≡ b.spec.cached)
 
 -- So many begins were made, and these are live. They have distinct numbers, and no other seat has a load.
 pub record Stands (limits : Limits) (content : Option Contents) (begun : ℕ) (live : List Begin) (w : World) (known : ℕ → Knowledge) : Type 0 where
@@ -45,8 +45,8 @@ pub same_number : (b : Begin) (n m : ℕ) → IsLoadOf b n → IsLoadOf b m → 
 same_number b n m e h = omega (arith, e, h)
 
 -- a begin's load, by its number
-pub load_known : (known : Knowledge) (b : Begin) (n : ℕ) → IsLoadOf b n → IsKnown known b → (own : OwnLoad) × (get known.loads n ≡ Some own) × (own.key ≡ b.spec.key)
-load_known known b n load_of is = (is.2, ap (get known.loads) (same_number b n is.0 load_of is.1) ∙ is.3, is.4)
+pub load_known : (known : Knowledge) (b : Begin) (n : ℕ) → IsLoadOf b n → IsKnown known b → (own : OwnLoad) × (get known.loads n ≡ Some own) × (own.key ≡ b.spec.key) × (own.cached ≡ b.spec.cached)
+load_known known b n load_of is = (is.2, ap (get known.loads) (same_number b n is.0 load_of is.1) ∙ is.3, is.4, is.5)
 
 pub in_without : (number : ℕ) (b : Begin) (bs : List Begin) → In b (without_begin number bs) → In b bs × (b.number ≢ number)
 in_without number b [] h = absurd h
@@ -95,7 +95,7 @@ module _ (g : Grounds) (P : Said) (limits : Limits) (content : Option Contents) 
   -- ---- work
 
   work_kept : (b : Begin) (old new : Knowledge) → Knows old new → IsKnown old b → IsKnown new b
-  work_kept b old new k is = let now = k.kept is.0 is.2 is.3 in (is.0, is.1, now.0, now.1, now.2 ∙ is.4)
+  work_kept b old new k is = let now = k.kept is.0 is.2 is.3 in (is.0, is.1, now.0, now.1, now.2 ∙ is.4, now.3 ∙ is.5)
 
   pub work_stands : IsWork e.note.event → Stands limits content begun live m next
   work_stands is =
@@ -142,7 +142,7 @@ module _ (g : Grounds) (P : Said) (limits : Limits) (content : Option Contents) 
           (λ o o_in.
           let old = in_without b.number o live o_in in
           let l : IsKnown (known 0) o = at.live_are o old.0 in
-          own (λ kn. IsKnown kn o) _ is.2 (l.0, l.1, l.2, gone_other (known 0).loads is.0 l.0 (λ same. old.1 (l.1 ∙ ap (λ n. n + 1) same ∙ sym is.1)) ∙ l.3, l.4))
+          own (λ kn. IsKnown kn o) _ is.2 (l.0, l.1, l.2, gone_other (known 0).loads is.0 l.0 (λ same. old.1 (l.1 ∙ ap (λ n. n + 1) same ∙ sym is.1)) ∙ l.3, l.4, l.5))
           (own (λ kn. (n : ℕ) (load : OwnLoad) → get kn.loads n ≡ Some load → (o : Begin) × In o (without_begin b.number live) × IsLoadOf o n) _ is.2 (λ n load load_at.
           let found = gone_found (known 0).loads is.0 n load load_at in
           let old = at.known_are n load found.1 in
@@ -179,10 +179,10 @@ module _ (g : Grounds) (P : Said) (limits : Limits) (content : Option Contents) 
           let one : len (insert kn.loads kn.begun new) ≡ len kn.loads + 1 = len-insert nat_cmp_total kn.loads kn.begun _ ∙ ap (λ o. cond (is_some o) (len kn.loads) (len kn.loads + 1)) unused in
           omega (arith, one, ap (λ l. len l) adds.loads, at.size_is))
           (λ o o_in. elim o_in [
-            | inl same ↦ subst (IsKnown (next 0)) (sym same) (kn.begun, mine_is, new, ap (λ l. get l kn.begun) adds.loads ∙ put_same kn.loads kn.begun new, refl)
+            | inl same ↦ subst (IsKnown (next 0)) (sym same) (kn.begun, mine_is, new, ap (λ l. get l kn.begun) adds.loads ∙ put_same kn.loads kn.begun new, refl, refl)
             | inr old ↦
                 let l : IsKnown kn o = at.live_are o old in
-                (l.0, l.1, l.2, ap (λ q. get q l.0) adds.loads ∙ put_other kn.loads kn.begun new l.0 (λ same. absurd (omega (arith, (at.sound.known_is 0).below l.0 l.2 l.3, same))) ∙ l.3, l.4)
+                (l.0, l.1, l.2, ap (λ q. get q l.0) adds.loads ∙ put_other kn.loads kn.begun new l.0 (λ same. absurd (omega (arith, (at.sound.known_is 0).below l.0 l.2 l.3, same))) ∙ l.3, l.4, l.5)
           ])
           (λ n load load_at. elim (put_cases kn.loads kn.begun new n load (ap (λ q. get q n) (sym adds.loads) ∙ load_at)) [
             | inl h ↦ (b, inl refl, mine_is ∙ ap (λ q. q + 1) (sym h.0))
