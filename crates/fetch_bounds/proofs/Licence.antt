@@ -1,7 +1,7 @@
 -- The begins of one key that fail together by their source need one failed job: they run at the same time, and so were made
 -- after the same gather.
-use Rattle.std.proofs.Common.{Bool, Err, List, None, Ok, Option, Result, Some, [], ap, arith, cond, false, inl, inr, length, refl, subst, sym, true, true≢false, ℕ, ◌++◌, ◌+◌, ◌-◌, ◌<◌, ◌∙◌, ◌∷◌, ◌≡◌, ◌≤◌}
-use Rattle.std.proofs.lemmas.Bool.{eq-eqb, and_from}
+use Rattle.std.proofs.Common.{Bool, Err, List, None, Ok, Option, Result, Some, [], ap, append_assoc, arith, cond, false, inl, inr, length, refl, subst, sym, true, true≢false, ℕ, ◌++◌, ◌+◌, ◌-◌, ◌<◌, ◌∙◌, ◌∷◌, ◌≡◌, ◌≤◌}
+use Rattle.std.proofs.lemmas.Bool.{eq-eqb}
 use Rattle.std.proofs.lemmas.List.{length-append}
 use Rattle.std.proofs.lemmas.List.Sums.{sum_by-append, sum_by-cons}
 use Rattle.std.specs.FinMap.{get, get-empty}
@@ -43,7 +43,7 @@ use Rattle.cache_key.specs.KeyLaws.{same_key-of}
 use Rattle.fetch_bounds.proofs.Seats.{there_known}
 use Rattle.fetch_bounds.proofs.Standing.{IsKnown, Stands, begin_stands, drop_stands, in_without, load_known, opening_stands, same_number, stays_without, trim_stands, work_stands}
 use Rattle.fetch_bounds.proofs.Starting.{IsNoLoad}
-use Rattle.fetch_bounds.specs.Costs.{failed_address, failed_by, failed_from}
+use Rattle.fetch_bounds.specs.Failures.{FailedJob, address_if_source, failed_job, fails_by, fails_from, source_addresses}
 use Rattle.fetch_bounds.specs.Follows.{Follows, IsEndOf, IsLoadBy, IsLoadOf, IsReleaseOf, IsTrimTo, IsWork, reply_of}
 use Rattle.fetch_bounds.specs.Laws.{FailedJobsSuffice, events_of, start_of}
 use Rattle.fetch_bounds.proofs.Seats as Seats
@@ -144,7 +144,7 @@ meets_later world history note n (x ∷ xs) ys w v leads h = inr (leads.0, leads
 
 -- ---- numbers of begins
 
-later_numbers : (events : List TraceEvent) (begun : ℕ) (live : List Begin) → IsOrderly begun live events → (b : Begin) → In b (begins_in events) → begun < b.number
+pub later_numbers : (events : List TraceEvent) (begun : ℕ) (live : List Begin) → IsOrderly begun live events → (b : Begin) → In b (begins_in events) → begun < b.number
 later_numbers [] begun live order b b_in = absurd b_in
 later_numbers (Begun x others ∷ events) begun live order b b_in = elim b_in [
   | inl is ↦ omega (arith, ap (λ (o : Begin). o.number) is, order.0)
@@ -156,7 +156,7 @@ later_numbers (Trimmed level ∷ events) begun live order b b_in = later_numbers
 later_numbers (Printed line ∷ events) begun live order b b_in = later_numbers events begun live order b b_in
 
 -- no two begins of a trace have one number
-numbers_apart : (events : List TraceEvent) (begun : ℕ) (live : List Begin) → IsOrderly begun live events → (a b : Begin) → In a (begins_in events) → In b (begins_in events) → a.number ≡ b.number → a ≡ b
+pub numbers_apart : (events : List TraceEvent) (begun : ℕ) (live : List Begin) → IsOrderly begun live events → (a b : Begin) → In a (begins_in events) → In b (begins_in events) → a.number ≡ b.number → a ≡ b
 numbers_apart [] begun live order a b a_in b_in same = absurd a_in
 numbers_apart (Begun x others ∷ events) begun live order a b a_in b_in same = elim a_in [
   | inl a_is ↦ elim b_in [
@@ -182,6 +182,12 @@ all_after_one gathers (x ∷ bs) b all b_in = elim b_in [ inl is ↦ ap (λ (o :
 count-append : (p : Address → Bool) (xs ys : List Address) → count_by p (xs ++ ys) ≡ count_by p xs + count_by p ys
 count-append p xs ys = sum_by-append (λ a. cond (p a) 1 0) xs ys
 
+sources-append : (xs ys : List FailedJob) → source_addresses (xs ++ ys) ≡ source_addresses xs ++ source_addresses ys
+sources-append [] ys = refl
+sources-append (job ∷ xs) ys =
+    let here = address_if_source job.cause (address_of job.spec.key) in
+    ap (λ l. here ++ l) (sources-append xs ys) ∙ sym (append_assoc here (source_addresses xs) (source_addresses ys))
+
 -- what is said of each state: nothing
 abbrev pub Nothing : Said
 Nothing w = ⊤
@@ -201,7 +207,7 @@ module _ (g : Grounds) (limits : Limits) (content : Option Contents) (every : Li
   -- There are pairs, no more than jobs failed by their source, such that each begin has one that fails so later.
   pub record Suffices (w : World) (known : ℕ → Knowledge) (es : List (Entry Note)) : Type 0 where
     pub pairs : List (ℕ × Key)
-    pub fewer : length pairs ≤ count_by (λ a. same_address a address) (failed_from known es)
+    pub fewer : length pairs ≤ count_by (λ a. same_address a address) (source_addresses (fails_from known es))
     pub covers : (b : Begin) (n : ℕ) → In b every → IsLoadOf b n → IsAt b → (HasFailed n w → ⊥) → Meets n w es → HasPair b pairs
 
   -- the pair of the begins that fail by an entry
@@ -216,7 +222,7 @@ module _ (g : Grounds) (limits : Limits) (content : Option Contents) (every : Li
   new_pairs running job (events.Fail j causes.Source) = source_pairs running job
   new_pairs running job event = []
 
-  source_few : (running : List Begin) (job : Option OwnJob) → length (source_pairs running job) ≤ count_by (λ a. same_address a address) (failed_address job causes.Source)
+  source_few : (running : List Begin) (job : Option OwnJob) → length (source_pairs running job) ≤ count_by (λ a. same_address a address) (source_addresses (failed_job job causes.Source))
   source_few [] job = omega arith
   source_few (r ∷ rs) None = omega arith
   source_few (r ∷ rs) (Some job) =
@@ -226,7 +232,7 @@ module _ (g : Grounds) (limits : Limits) (content : Option Contents) (every : Li
       elim (same_address (address_of job.spec.key) address) as (λ t. length (cond t (pair_of r job ∷ []) []) ≤ cond t 1 0) [ true ↦ omega arith | false ↦ omega arith ] in
       omega (arith, sum, here)
 
-  new_few : (running : List Begin) (known : Knowledge) (event : Event) → length (new_pairs running known.job event) ≤ count_by (λ a. same_address a address) (failed_by known event)
+  new_few : (running : List Begin) (known : Knowledge) (event : Event) → length (new_pairs running known.job event) ≤ count_by (λ a. same_address a address) (source_addresses (fails_by known event))
   new_few running known (events.Fail j causes.Source) = source_few running known.job
   new_few running known event = omega arith
 
@@ -261,10 +267,13 @@ module _ (g : Grounds) (limits : Limits) (content : Option Contents) (every : Li
     pub entry_adds : (es : List (Entry Note)) → Suffices m (known_after known e) es → Suffices w known (e ∷ es)
     entry_adds es c =
         let new = new_pairs running (known e.by).job e.note.event in
-        let failed = failed_by (known e.by) e.note.event in
+        let failed = fails_by (known e.by) e.note.event in
+        let later = fails_from (known_after known e) es in
+        let both : count_by (λ a. same_address a address) (source_addresses (failed ++ later)) ≡ count_by (λ a. same_address a address) (source_addresses failed) + count_by (λ a. same_address a address) (source_addresses later) =
+        ap (count_by (λ a. same_address a address)) (sources-append failed later) ∙ count-append (λ a. same_address a address) (source_addresses failed) (source_addresses later) in
         record {
           pairs = new ++ c.pairs;
-          fewer = omega (arith, length-append new c.pairs, new_few running (known e.by) e.note.event, c.fewer, count-append (λ a. same_address a address) failed (failed_from (known_after known e) es));
+          fewer = omega (arith, length-append new c.pairs, new_few running (known e.by) e.note.event, c.fewer, both);
           covers = λ b n b_in load_of is_at not_yet meets. elim meets [
             | inl now ↦ absurd (not_yet now)
             | inr later ↦
@@ -414,7 +423,7 @@ source_is : (o : Option Mark) → is_source o ≡ true → o ≡ Some Source
 source_is (Some Source) e = refl
 source_is o e = absurd (true≢false (sym e))
 
-load_number : (b : Begin) → 0 < b.number → (n : ℕ) × IsLoadOf b n
+pub load_number : (b : Begin) → 0 < b.number → (n : ℕ) × IsLoadOf b n
 load_number b some = (b.number - 1, omega (arith, some))
 
 pub failed_jobs_suffice : {M Reply : Type 0} → Grounds → HistoriesAreSound M Reply → TracesAreOrderly → BeginsRunTogether → FailedJobsSuffice M Reply

@@ -1,20 +1,16 @@
 -- What a history shows of the jobs that may ask a source: how many were started and how many were run, and whose sources
 -- failed. This project's own.
-use Rattle.std.specs.Prelude.{ℕ, ◌+◌, Bool, true, false, not, ◌&&◌, List, [], ◌∷◌, ◌++◌, Some}
-use Rattle.std.specs.declared.option.Option.{Option}
+use Rattle.std.specs.Prelude.{ℕ, ◌+◌, Bool, true, false, not, ◌&&◌, List, [], ◌∷◌}
 use Rattle.outside.specs.Content.{Address}
-use Rattle.cache_key.specs.KeyBytes.{address_of}
-use Rattle.load_cause.specs.declared.causes.Cause.{Cause}
-use Rattle.load_cause.specs.declared.causes.Cause.TheVariants as causes
 use Rattle.state_machine.specs.declared.entry.Entry.{Entry}
 use Rattle.engine_world.specs.declared.events.Event.{Event}
 use Rattle.engine_world.specs.declared.events.Event.TheVariants as events
 use Rattle.engine_world.specs.declared.events.NotedReply.{NotedReply}
 use Rattle.engine_world.specs.declared.events.NotedReply.TheVariants as replies
 use Rattle.engine_world.specs.declared.events.Note.{Note}
-use Rattle.engine_world.specs.Knowledge.{OwnJob, Knowledge, no_knowledge, knowledge_with}
 use Rattle.script_walk.specs.Walk.{TraceEvent, Begun}
 use Rattle.script_walk.specs.Starts.{one_if}
+use Rattle.fetch_bounds.specs.Failures.{fails_in, source_addresses}
 
 -- the begins of a trace that ask the caches alone
 abbrev pub cached_begins : List TraceEvent → ℕ
@@ -56,21 +52,6 @@ source_runs (e ∷ es) = source_run e.note.event e.note.reply + source_runs es
 
 -- ---- jobs whose source failed
 
-abbrev pub failed_address : Option OwnJob → Cause → List Address
-failed_address (Some job) causes.Source = address_of job.spec.key ∷ []
-failed_address job cause = []
-
--- the address that the seat's job has, where the entry ends it since its source failed
-abbrev pub failed_by : Knowledge → Event → List Address
-failed_by known (events.Fail job cause) = failed_address known.job cause
-failed_by known event = []
-
--- the addresses of all jobs that ended so, where each seat knows this to begin with
-abbrev pub failed_from : (ℕ → Knowledge) → List (Entry Note) → List Address
-failed_from known [] = []
-failed_from known (e ∷ es) =
-    failed_by (known e.by) e.note.event
-    ++ failed_from (knowledge_with known e.by e.note.event e.note.reply) es
-
+-- the addresses of all jobs that ended since their source failed
 abbrev pub failed_jobs : List (Entry Note) → List Address
-failed_jobs history = failed_from (λ who. no_knowledge) history
+failed_jobs history = source_addresses (fails_in history)

@@ -2,6 +2,7 @@ pub mod Findable
 pub mod InMemory
 pub mod Follows
 pub mod Parts
+pub mod Failures
 pub mod Costs
 pub mod Answered
 pub mod Laws

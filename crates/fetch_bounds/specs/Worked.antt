@@ -18,6 +18,7 @@ use Rattle.script_walk.specs.Walk.{TraceEvent, trace}
 use Rattle.script_walk.specs.Marks.{no_marks, outcome_of}
 use Rattle.script_walk.specs.Worked as script
 use Rattle.script_walk.specs.Worked.{a, red_a, red_b, says, results, asked}
+use Rattle.fetch_bounds.specs.Failures.{FailedJob}
 
 -- a load of `red`
 abbrev pub red_spec : LoadSpec
@@ -64,3 +65,6 @@ dump_history =
 
 abbrev pub failed_history : List (Entry Note)
 failed_history = two_loads ++ theirs (events.Fail 0 causes.Source) replies.Done ∷ []
+
+abbrev pub red_failure : FailedJob
+red_failure = record { spec = red_spec; cause = causes.Source }
