@@ -24,7 +24,7 @@ use Rattle.load_table.specs.Loads.{LoadName, load_cmp}
 use Rattle.load_table.specs.declared.loads.LoadState.TheVariants.{Failed, Ready, Waiting}
 use Rattle.outside.specs.Content.{Contents}
 use Rattle.script_walk.specs.Laws.{EachEnd, EndsDecide, TracesAreOrderly}
-use Rattle.script_walk.specs.Marks.{Mark, Marks, Memory, Source, Uncached, marked_result, outcome_of}
+use Rattle.script_walk.specs.Marks.{Mark, Marks, Memory, Source, Uncached, cause_of, marked_result, outcome_of}
 use Rattle.script_walk.specs.Orderly.{In, IsOrderly, without_begin}
 use Rattle.script_walk.specs.Walk.{Begin, Begun, Dropped, Ended, Printed, TraceEvent, Trimmed, closing, walk}
 use Rattle.state_machine.specs.Legal.{Leads}
@@ -34,7 +34,7 @@ use Rattle.fetch_bounds.proofs.Changing.{change_law, failed_law, is_failed, is_w
 use Rattle.fetch_bounds.proofs.Entries.{work_knows}
 use Rattle.fetch_bounds.proofs.Following.{IsStep, Passes, all_work_law, known_after, next_law, prints_law}
 use Rattle.fetch_bounds.proofs.Histories.{Goes, Grounds, Said, legal_goes, step_same}
-use Rattle.fetch_bounds.proofs.Licence.{HasFailed, Nothing}
+use Rattle.fetch_bounds.proofs.Licence.{Nothing}
 use Rattle.fetch_bounds.proofs.Right.{AllRight, right_law}
 use Rattle.fetch_bounds.proofs.Seats.{known_there, seat_law, there_known}
 use Rattle.fetch_bounds.proofs.Standing.{Stands, begin_stands, drop_stands, load_known, opening_stands, trim_stands, work_stands}
@@ -70,13 +70,12 @@ free_some causes.Source free = refl
 free_some causes.Memory free = refl
 free_some causes.Uncached free = refl
 
-abbrev is_of_source : Option Mark → Bool
-is_of_source (Some Source) = true
-is_of_source o = false
-
-source_of : (o : Option LoadState) → mark_at o ≡ Some Source → o ≡ Some (Failed causes.Source)
-source_of (Some (Failed causes.Source)) e = refl
-source_of o e = absurd (true≢false (sym (ap is_of_source e)))
+-- what has a mark has failed for its cause
+failure_of : (o : Option LoadState) (mark : Mark) → mark_at o ≡ Some mark → o ≡ Some (Failed (cause_of mark))
+failure_of (Some (Failed causes.Source)) mark e = ap (λ m. Some (Failed (cause_of m))) (same_Some _ _ e)
+failure_of (Some (Failed causes.Memory)) mark e = ap (λ m. Some (Failed (cause_of m))) (same_Some _ _ e)
+failure_of (Some (Failed causes.Uncached)) mark e = ap (λ m. Some (Failed (cause_of m))) (same_Some _ _ e)
+failure_of o mark e = absurd (not_Some e)
 
 marked_is : (c : Contents) (key : Key) (cause : Cause) → IsCauseOf c key cause → marked_result (end_in c key) (mark_of cause) ≡ Err cause
 marked_is c key causes.Missing right = right
@@ -154,21 +153,21 @@ module _ {M Reply : Type 0} (world : M → World) (history : M → List (Entry N
       let rest : MarksFrom leads.0 (xs ++ ys) marks.1 = subst (λ u. MarksFrom u (xs ++ ys) marks.1) (step_same w marks.0 leads.0 x marks.2 leads.1) marks.3 in
       ap is_some (marks.4 n) ∙ some_right (mark_at (get w.loads (0, n))) (marks.1 n) (failure_marked xs ys leads.0 v marks.1 n cause leads.2 failed free rest)
 
-  -- a mark of the source is a failure on the way
-  record Met (n : ℕ) (w : World) (es : List (Entry Note)) : Type 0 where
+  -- a mark is a failure on the way
+  record Met (mark : Mark) (n : ℕ) (w : World) (es : List (Entry Note)) : Type 0 where
     before : List (Entry Note)
     after : List (Entry Note)
     state : World
     parts : es ≡ before ++ after
     leads : Leads (engine_machine world history note) w before state
-    failed : HasFailed n state
+    failed : get state.loads (0, n) ≡ Some (Failed (cause_of mark))
 
-  source_met : (es : List (Entry Note)) (w : World) (f : ByLoad) (n : ℕ) → MarksFrom w es f → f n ≡ Some Source → Met n w es
-  source_met [] w f n marks is = record { before = []; after = []; state = w; parts = refl; leads = refl; failed = source_of _ (sym (marks n) ∙ is) }
-  source_met (e ∷ es) w f n marks is = elim (mark_at (get w.loads (0, n))) as (λ o. mark_at (get w.loads (0, n)) ≡ o → option_or o (marks.1 n) ≡ Some Source → Met n w (e ∷ es)) [
-    | Some mark ↦ λ h now. record { before = []; after = e ∷ es; state = w; parts = refl; leads = refl; failed = source_of _ (h ∙ now) }
+  mark_met : (mark : Mark) (es : List (Entry Note)) (w : World) (f : ByLoad) (n : ℕ) → MarksFrom w es f → f n ≡ Some mark → Met mark n w es
+  mark_met mark [] w f n marks is = record { before = []; after = []; state = w; parts = refl; leads = refl; failed = failure_of _ mark (sym (marks n) ∙ is) }
+  mark_met mark (e ∷ es) w f n marks is = elim (mark_at (get w.loads (0, n))) as (λ o. mark_at (get w.loads (0, n)) ≡ o → option_or o (marks.1 n) ≡ Some mark → Met mark n w (e ∷ es)) [
+    | Some first ↦ λ h now. record { before = []; after = e ∷ es; state = w; parts = refl; leads = refl; failed = failure_of _ mark (h ∙ now) }
     | None ↦ λ h later.
-        let rest = source_met es marks.0 marks.1 n marks.3 later in
+        let rest = mark_met mark es marks.0 marks.1 n marks.3 later in
         record { before = e ∷ rest.before; after = rest.after; state = rest.state; parts = ap (λ l. e ∷ l) rest.parts; leads = (marks.0, marks.2, rest.leads); failed = rest.failed }
   ] refl (sym (marks.4 n) ∙ is)
 
@@ -413,8 +412,8 @@ runs_mark_themselves g always orderly decide world history note run is right =
       record {
         failures = λ w n cause through failed free. ap is_some (by_number_is all n)
             ∙ failure_marked world history note through.before through.after start w all n cause through.leads failed free (subst (λ l. MarksFrom start l all) through.parts marked.1);
-        sources = λ n mark.
-            let met = source_met world history note run.history start all n marked.1 (sym (by_number_is all n) ∙ mark) in
+        failed = λ n mark is_mark.
+            let met = mark_met world history note mark run.history start all n marked.1 (sym (by_number_is all n) ∙ is_mark) in
             (met.state, record { before = met.before; after = met.after; parts = met.parts; leads = met.leads }, met.failed);
         walk_is = ap (λ (s : walk.Step). s.events ++ closing s.stage) (sym same);
       },

@@ -25,7 +25,7 @@ use Rattle.engine_world.specs.Permits.{Permits}
 use Rattle.engine_world.specs.Sound.{Sound}
 use Rattle.engine_world.specs.EngineMachine.{engine_machine}
 use Rattle.script_walk.specs.Walk.{Outcome, TraceEvent, trace}
-use Rattle.script_walk.specs.Marks.{Marks, Source, begins_in, same_address, failed_fetches}
+use Rattle.script_walk.specs.Marks.{Mark, Marks, Source, cause_of, begins_in, same_address, failed_fetches}
 use Rattle.script_walk.specs.Starts.{Walked, starts}
 use Rattle.fetch_bounds.specs.Findable.{AsksAll, LoadsAskAll, IsFindable}
 use Rattle.fetch_bounds.specs.InMemory.{AllFit, LoadedAmong, LoadsAmong, TrimsNothing, IsInMemory}
@@ -150,6 +150,11 @@ module _ {M Reply : Type 0} (world : M → World) (history : M → List (Entry N
   abbrev pub SourceMarksAreFailures : Run → Type 0
   SourceMarksAreFailures run = (n : ℕ) → run.marks (n + 1) ≡ Some Source
       → (w : World) × ComesThrough run w × (get w.loads (0, n) ≡ Some (Failed causes.Source))
+
+  -- The same for each mark: a begin is marked only where its load has failed for the cause of the mark.
+  abbrev pub MarksAreFailures : Run → Type 0
+  MarksAreFailures run = (n : ℕ) (mark : Mark) → run.marks (n + 1) ≡ Some mark
+      → (w : World) × ComesThrough run w × (get w.loads (0, n) ≡ Some (Failed (cause_of mark)))
 
 -- ---- what a run costs
 

@@ -10,7 +10,7 @@ use Rattle.engine_world.specs.World.{World}
 use Rattle.script_walk.specs.Walk.{trace}
 use Rattle.script_walk.specs.Marks.{Marks, outcome_of}
 use Rattle.script_walk.specs.Laws.{EachEnd}
-use Rattle.fetch_bounds.specs.Laws.{Run, events_of, IsRun, FailuresAreMarked, SourceMarksAreFailures}
+use Rattle.fetch_bounds.specs.Laws.{Run, events_of, IsRun, FailuresAreMarked, MarksAreFailures}
 
 -- The pictures that begins came to are those that the content gives their keys.
 abbrev pub PicturesAreRight : Run → Type 0
@@ -21,10 +21,10 @@ PicturesAreRight run = EachEnd
 
 module _ {M Reply : Type 0} (world : M → World) (history : M → List (Entry Note))
     (note : Event → Reply → Note) where
-  -- With these marks each failure is marked, each mark of a source is a failure, and the walk is the content's under them.
+  -- With these marks each failure is marked, each mark is a failure, and the walk is the content's under them.
   pub record IsMarkedBy (run : Run) (marks : Marks) : Type 0 where
     pub failures : FailuresAreMarked world history note (record run { marks = marks })
-    pub sources : SourceMarksAreFailures world history note (record run { marks = marks })
+    pub failed : MarksAreFailures world history note (record run { marks = marks })
     pub walk_is : events_of run ≡ trace (outcome_of (end_in run.content) marks) run.commands
 
 -- Each run whose pictures are right has such marks.

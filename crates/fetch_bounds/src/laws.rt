@@ -60,7 +60,7 @@ pub fn failed_jobs_suffice<M, R>()
 }
 
 /// A run whose pictures are right is the content's walk under marks of its own: each of its failures that no content gives is
-/// marked, and a begin is marked as failed by its source only where its load failed so.
+/// marked, and a begin is marked only where its load failed for the cause of its mark.
 pub fn runs_mark_themselves<M, R>()
     ensures { RunsMarkThemselves M R }
 {
