@@ -23,3 +23,6 @@ mod Answered
 mod Parts
 mod Licence
 mod OwnMarks
+mod Failures
+mod FailedEnds
+mod Begun

@@ -18,7 +18,6 @@ use Rattle.load_table.specs.declared.loads.LoadState.TheVariants.{Failed, Waitin
 use Rattle.outside.specs.Content.{Contents}
 use Rattle.fetch_bounds.proofs.Changing.{failed_law}
 use Rattle.fetch_bounds.proofs.Entries.{work_knows}
-use Rattle.fetch_bounds.proofs.Maps.{gone_found, put_other}
 use Rattle.fetch_bounds.proofs.Seats.{Runs, at_each_seat, runs, there_known}
 use Rattle.fetch_bounds.specs.Follows.{IsWork}
 use Rattle.fetch_bounds.specs.Laws.{IsFree}

@@ -6,5 +6,6 @@ pub mod Failures
 pub mod Costs
 pub mod Answered
 pub mod Laws
+pub mod FailureLaws
 pub mod OwnMarks
 pub mod Worked

@@ -3,6 +3,7 @@ ghost use Rattle.engine_world.specs.declared.events.Event.{Event};
 ghost use Rattle.fetch_bounds.specs.Answered.{OrdersAreTheTraces, EndsAreAnswered, LinesAreAnswered};
 ghost use Rattle.fetch_bounds.specs.Parts.{TracesJoin};
 ghost use Rattle.fetch_bounds.specs.OwnMarks.{RunsMarkThemselves};
+ghost use Rattle.fetch_bounds.specs.FailureLaws.{FailuresGoOn, FailuresByEntry, SourceRunsAddUp, FailedLoadsWereFailed, EndsHaveFailures, MarkedBeginsFailed, RunsAreBegun};
 ghost use Rattle.fetch_bounds.specs.Laws.{SharedLoadsStartNoJob, OpensFindable, KeepsFindable, KeepsAllRemembered, KeepsPictures, RunsAreBounded, FailedJobsSuffice};
 
 use engine_world::{each_event_keeps_opening, each_event_keeps_sound, each_history_is_sound};
@@ -69,4 +70,54 @@ pub fn runs_mark_themselves<M, R>()
     each_history_is_sound::<M, R>();
     traces_are_orderly();
     ends_decide_the_walk();
+}
+
+/// The failed jobs of a history, in order, are the first ones of each longer history, and one entry more adds the job that it
+/// fails. Runs of jobs that may ask their source add up.
+pub fn failures_add_up()
+    ensures longer { FailuresGoOn }
+    ensures entry { FailuresByEntry }
+    ensures runs { SourceRunsAddUp }
+{}
+
+/// In a legal history a load that has failed waited for a job of its key and kind that failed for its cause; the content may be
+/// known or not. The kind says whether the caches alone were asked.
+pub fn failed_loads_were_failed<M, R>()
+    ensures { FailedLoadsWereFailed M R }
+{
+    each_event_keeps_sound();
+    each_event_keeps_opening();
+    each_history_is_sound::<M, R>();
+}
+
+/// In a legal history that follows a trace, each begin that came to its end without a picture has a failed job of its key, kind
+/// and cause; the content may be known or not.
+pub fn ends_have_failures<M, R>()
+    ensures { EndsHaveFailures M R }
+{
+    each_event_keeps_sound();
+    each_event_keeps_opening();
+    each_history_is_sound::<M, R>();
+}
+
+/// Where begins are marked only for failures of their loads, each begin with a mark has a failed job of its key and kind, whose
+/// cause is the mark's. With `runs_mark_themselves`: no begin is marked for want of memory unless a job failed so, and none as
+/// uncached or failed by its source unless a job of its kind did.
+pub fn marked_begins_failed<M, R>()
+    ensures { MarkedBeginsFailed M R }
+{
+    each_event_keeps_sound();
+    each_event_keeps_opening();
+    each_history_is_sound::<M, R>();
+    traces_are_orderly();
+}
+
+/// In a legal history that follows a trace, jobs that may ask their source are run no more often than begins are made; the
+/// content may be known or not.
+pub fn runs_are_begun<M, R>()
+    ensures { RunsAreBegun M R }
+{
+    each_event_keeps_sound();
+    each_event_keeps_opening();
+    each_history_is_sound::<M, R>();
 }

@@ -6,6 +6,7 @@ mod laws;
 mod worked;
 
 pub use laws::{
-    failed_jobs_suffice, followed_traces_are_answered, followed_traces_join, loads_are_shared,
-    pictures_stay_in_memory, runs_are_bounded, runs_mark_themselves,
+    ends_have_failures, failed_jobs_suffice, failed_loads_were_failed, failures_add_up,
+    followed_traces_are_answered, followed_traces_join, loads_are_shared, marked_begins_failed,
+    pictures_stay_in_memory, runs_are_begun, runs_are_bounded, runs_mark_themselves,
 };
