@@ -6,7 +6,7 @@ use Rattle.engine_world.specs.declared.events.NotedReply.TheVariants as replies
 use Rattle.engine_world.specs.Knowledge.{OwnJob}
 use Rattle.engine_world.specs.Permits.{IsPicture}
 use Rattle.engine_shared.specs.Tokens.{HoldValue}
-use Rattle.engine_shared.specs.Caller.{Caller, knowledge_of, content_of, picture_held, HasLoad, HasReadyLoad}
+use Rattle.engine_shared.specs.Caller.{Caller, knowledge_of, picture_held, HasLoad, HasReadyLoad}
 use Rattle.engine_shared.specs.CallLaws.{LoadsStay, ReadyLoadsStay}
 use Rattle.decode_job.specs.declared.ends.JobEnd.{JobEnd}
 use Rattle.decode_job.specs.declared.ends.JobEnd.TheVariants as ends

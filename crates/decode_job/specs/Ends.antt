@@ -9,7 +9,7 @@ use Rattle.engine_world.specs.declared.events.Event.TheVariants as events
 use Rattle.engine_world.specs.declared.events.NotedReply.TheVariants as replies
 use Rattle.engine_world.specs.Knowledge.{OwnJob}
 use Rattle.engine_world.specs.Permits.{IsPicture}
-use Rattle.engine_shared.specs.Caller.{Caller, content_of, IsCall}
+use Rattle.engine_shared.specs.Caller.{Caller, content_of, IsCall, RunsJob}
 use Rattle.decode_job.specs.declared.ends.JobEnd.{JobEnd}
 use Rattle.decode_job.specs.declared.ends.JobEnd.TheVariants as ends
 use Rattle.decode_job.specs.JobCalls.{MakesCalls}
@@ -18,13 +18,13 @@ use Rattle.decode_job.specs.Sources.{SourceView, HasText, WasFetched, FailedAt}
 -- ---- why it failed
 
 -- A job fails for this cause: its source has nothing, has a text that is refused so, or failed; or the job
--- asks the caches alone. Want of memory is free.
+-- asks the caches alone. Only one that may ask its source fails by it. Want of memory is free.
 abbrev pub FailsFor : LoadSpec → SourceView → SourceView → Cause → Type 0
 FailsFor spec old new causes.Missing = WasFetched old new × HasText old.content spec.key None
 FailsFor spec old new (causes.Refused refusal) =
     WasFetched old new × (text : List ℕ) × HasText old.content spec.key (Some text)
     × (picture_of text spec.key ≡ Err refusal)
-FailsFor spec old new causes.Source = WasFetched old new × FailedAt spec.key old new
+FailsFor spec old new causes.Source = (spec.cached ≡ false) × WasFetched old new × FailedAt spec.key old new
 FailsFor spec old new causes.Memory = ⊤
 FailsFor spec old new causes.Uncached = spec.cached ≡ true
 
@@ -58,4 +58,5 @@ pub record RunsToEnd (old : Caller) (job : OwnJob) (end : JobEnd) (new : Caller)
   pub calls : MakesCalls false old job.number between
   pub number : now.number ≡ job.number
   pub spec : now.spec ≡ job.spec
+  pub runs : RunsJob between now
   pub last : IsLastCall between now end new

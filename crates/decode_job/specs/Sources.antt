@@ -35,12 +35,13 @@ HasText None key found = ⊤
 HasText (Some content) key found = get content (address_of key) ≡ found
 
 -- A source was asked for this key alone: its content is as it was, its count of faults did not fall, and
--- at most the key's own address is a failed one more.
+-- at most the key's own address is a failed one more, where the count rose.
 pub record AskedAlone (key : Key) (old new : SourceView) : Type 0 where
   pub content : new.content ≡ old.content
   pub faults : old.faults ≤ new.faults
   pub failed : OnSome old.content
-      ((new.failed ≡ old.failed) ⊎ (new.failed ≡ old.failed ++ address_of key ∷ []))
+      ((new.failed ≡ old.failed)
+      ⊎ ((new.failed ≡ old.failed ++ address_of key ∷ []) × Rose old.faults new.faults))
 
 -- It was asked once.
 abbrev pub WasFetched : SourceView → SourceView → Type 0
