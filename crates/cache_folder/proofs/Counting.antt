@@ -75,12 +75,20 @@ module _ (laws : JournalLaws) where
         others = λ name j v. get_other g journal_name text name j ∙ h.others name j v;
       }
 
-  pub lost_line : (key bytes : List ℕ) (f g : Folder) → MayLose key f g → AllByRecursion (MayLose key f) (appended journal_name bytes g)
-  lost_line key bytes f g h = by (get g journal_name) where
-    grows : (text bytes : List ℕ) → AllByRecursion (MayLose key f) (grown journal_name text bytes g)
+  -- the append of a line, where each text of the journal leaves what holds
+  pub line_leaves : (P : Folder → Type 0) (bytes : List ℕ) (g : Folder) → ((text : List ℕ) → P (insert g journal_name text)) → AllByRecursion P (appended journal_name bytes g)
+  line_leaves P bytes g leaves = by (get g journal_name) where
+    grows : (text bytes : List ℕ) → AllByRecursion P (grown journal_name text bytes g)
     grows text [] = tt
-    grows text (b ∷ bytes) = (lost_more key f g (text ++ b ∷ []) h, grows (text ++ b ∷ []) bytes)
+    grows text (b ∷ bytes) = (leaves (text ++ b ∷ []), grows (text ++ b ∷ []) bytes)
 
-    by : (o : Option (List ℕ)) → AllByRecursion (MayLose key f) (appended_to o journal_name bytes g)
+    by : (o : Option (List ℕ)) → AllByRecursion P (appended_to o journal_name bytes g)
     by None = tt
     by (Some text) = grows text bytes
+
+  pub lost_line : (key bytes : List ℕ) (f g : Folder) → MayLose key f g → AllByRecursion (MayLose key f) (appended journal_name bytes g)
+  lost_line key bytes f g h = line_leaves (MayLose key f) bytes g (λ text. lost_more key f g text h)
+
+  -- and of a value that was deleted
+  pub gone_line : (key bytes : List ℕ) (g : Folder) → get g (value_name key) ≡ None → AllByRecursion (λ c. get c (value_name key) ≡ None) (appended journal_name bytes g)
+  gone_line key bytes g gone = line_leaves (λ c. get c (value_name key) ≡ None) bytes g (λ text. get_other g journal_name text (value_name key) (flip _ _ (journal-value key)) ∙ gone)

@@ -88,3 +88,11 @@ numbers_differ key k edits n m ne is is' same =
 pub free_differs : (k : List ℕ) (edits : Edits) (n m : ℕ) → free_edit edits ≡ Some n → edit_of k edits ≡ Some m → m ≢ n
 free_differs k edits n m free is same =
     let none : Some k ≡ None = sym (at_number k edits m is).1 ∙ ap (λ i. get_or edits i None) same ∙ (free_number edits n free).1 in cc
+
+-- a place that was free, opened and closed again
+pub closed_again : (key : List ℕ) (edits : Edits) (n : ℕ) → free_edit edits ≡ Some n → set (set edits n (Some key)) n None ≡ edits
+closed_again key edits n free = back edits n (free_number edits n free).1 where
+  back : (edits : Edits) (n : ℕ) → get_or edits n None ≡ None → set (set edits n (Some key)) n None ≡ edits
+  back [] n is = refl
+  back (edit ∷ edits) zero is = ap (λ e. e ∷ edits) (sym is)
+  back (edit ∷ edits) (suc n) is = ap (λ es. edit ∷ es) (back edits n is)

@@ -208,3 +208,7 @@ touched_lines t key known = ap (λ b. let u : TableValue = cond b (let now : Tab
 
 pub forgotten_lines : (t : TableValue) (key : List ℕ) → is_known key t.entries ≡ true → (forgotten key t).lines ≡ counted t.lines
 forgotten_lines t key known = ap (λ b. let u : TableValue = cond b (let now : TableValue = record t { entries = without key t.entries; lines = counted t.lines } in now) t in u.lines) known
+
+-- a key that has no edit is taken out with none
+pub forgotten_edits : (t : TableValue) (key : List ℕ) → (forgotten key t).edits ≡ t.edits
+forgotten_edits t key = elim (is_known key t.entries) as (λ b. (let u : TableValue = cond b (let now : TableValue = record t { entries = without key t.entries; lines = counted t.lines } in now) t in u.edits) ≡ t.edits) [ true ↦ refl | false ↦ refl ]

@@ -10,6 +10,7 @@ pub mod Journaled
 pub mod Kept
 pub mod Lists
 pub mod Loading
+pub mod Lookups
 pub mod Lost
 pub mod Mapped
 pub mod NewJournal

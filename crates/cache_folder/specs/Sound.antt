@@ -2,6 +2,7 @@
 -- what must hold at every moment is this project's own.
 use Rattle.std.specs.Prelude.{◌≡◌, ◌≢◌, ◌⊎◌, ℕ, true, ◌+◌, ◌<◌, ◌≤◌, ◌^◌, List, [], length, Some, None, ⊤, is_some, option_and_then, unwrap_or}
 use Rattle.std.specs.declared.option.Option.{Option}
+use Rattle.std.specs.Option.{option_map}
 use Rattle.std.specs.List.{AllByRecursion}
 use Rattle.std.specs.FinMap.{get}
 use Rattle.outside.specs.Files.{Folder, FolderHistory}
@@ -9,9 +10,9 @@ use Rattle.journal_lines.specs.Keys.{is_key}
 use Rattle.disk_table.specs.UseOrder.{IsOnce}
 use Rattle.cache_folder.specs.Offered.{journal_name, journal_tmp, journal_bkp, value_name, edit_name, offered}
 use Rattle.cache_folder.specs.Journals.{Says, line_count}
-use Rattle.cache_folder.specs.Steps.{Entry, Cached, CacheStep, Restore, Drop, stepped, offers}
+use Rattle.cache_folder.specs.Steps.{Entry, Cached, CacheStep, Restore, Drop, values_at, stepped, offers}
 use Rattle.cache_folder.specs.Images.{IfKnown, Runs, OffersEither}
-use Rattle.cache_folder.specs.Tables.{Kept, Table, mapped, in_journal}
+use Rattle.cache_folder.specs.Tables.{Kept, Table, mapped, len_at, in_journal}
 
 -- ---- the list
 
@@ -22,6 +23,10 @@ in_folder folder key kept = record { values = option_and_then (λ n. get folder 
 -- the list that a table stands for over a folder
 abbrev pub listed : Folder → Table → Cached (List ℕ)
 listed folder table = mapped (in_folder folder) table
+
+-- a table has for a key the length of the bytes that a list has
+abbrev pub SameLength : List ℕ → Table → Cached (List ℕ) → Type 0
+SameLength key table es = len_at key table ≡ option_map length (values_at key es)
 
 -- the bytes of a file
 abbrev pub text_at : Folder → List ℕ → List ℕ

@@ -1,6 +1,6 @@
 -- A disk cache as a list of entries, the eldest first, and its steps. It is this project's own view of DiskLruCache: an
 -- entry under edit is marked, so that a stop would lose it, and what is readable stays readable beside it.
-use Rattle.std.specs.Prelude.{ℕ, Bool, true, false, List, [], ◌∷◌, ◌++◌, Some, None, option_and_then}
+use Rattle.std.specs.Prelude.{◌≢◌, ⊤, ℕ, Bool, true, false, List, [], ◌∷◌, ◌++◌, Some, None, option_and_then}
 use Rattle.std.specs.declared.option.Option.{Option}
 use Rattle.disk_table.specs.UseOrder.{without, value_at, newest, used}
 
@@ -40,6 +40,23 @@ abbrev pub offer_of : {V : Type 0} → List ℕ → Bool → Option V → List (
 offer_of key true values = []
 offer_of key false None = []
 offer_of key false (Some values) = (key, values) ∷ []
+
+-- the values of an entry, where it is not marked
+abbrev pub unmarked : {V : Type 0} → Bool → Option V → Option V
+unmarked true values = None
+unmarked false values = values
+
+-- what the list answers for a key: its values, where they are readable and not marked
+abbrev pub answer_at : {V : Type 0} → List ℕ → Cached V → Option V
+answer_at key es = option_and_then (λ e. unmarked e.marked e.values) (value_at key es)
+
+-- the step leaves what the list answers for the key: it is on another key, or it uses an entry
+abbrev pub Leaves : {V : Type 0} → List ℕ → CacheStep V → Type 0
+Leaves key (Doubt k) = key ≢ k
+Leaves key (Commit k values) = key ≢ k
+Leaves key (Restore k) = key ≢ k
+Leaves key (Use k) = ⊤
+Leaves key (Drop k) = key ≢ k
 
 -- what the list offers: the marked are left out
 abbrev pub offers : {V : Type 0} → Cached V → List (List ℕ × V)

@@ -1,6 +1,6 @@
 -- The table of a disk cache with its open edits: what the cache keeps of each key, the eldest first, and what the calls make of
 -- it. It is this project's own view of what DiskLruCache keeps in memory.
-use Rattle.std.specs.Prelude.{◌≡◌, ℕ, Bool, not, ◌&&◌, List, [], ◌∷◌, Some, None, get_or, is_some, option_and_then, if◌then◌else◌}
+use Rattle.std.specs.Prelude.{◌≡◌, ℕ, Bool, not, ◌&&◌, List, [], ◌∷◌, Some, None, get_or, set, is_some, option_and_then, if◌then◌else◌}
 use Rattle.std.specs.declared.option.Option.{Option}
 use Rattle.std.specs.Option.{option_map}
 use Rattle.std.specs.Str.{bytes_eq}
@@ -39,6 +39,11 @@ kept t = mapped (kept_by t.table.edits t.written) t.table.entries
 -- one line of the journal was counted
 abbrev pub CountsLine : CacheTableValue → CacheTableValue → Type 0
 CountsLine old new = new.table.lines ≡ counted old.table.lines
+
+-- the open edits after the one at this number is closed, or where there is none
+abbrev pub closed_at : Option ℕ → List (Option (List ℕ)) → List (Option (List ℕ))
+closed_at None edits = edits
+closed_at (Some number) edits = set edits number None
 
 -- ---- what a key has
 

@@ -56,8 +56,8 @@ pub fn start_offers_the_same()
         → AllByRecursion (λ c. offered c ≡ offered f) (deleted name f) }
 {}
 
-/// What a call on a key, and what a rebuild, leave as it was; that sound files offer the table's list; and which pairs of a key
-/// and bytes a list can keep after some steps.
+/// What a call on a key, and what a rebuild, leave as it was; that sound files offer the table's list; which pairs of a key and
+/// bytes a list can keep after some steps; and what the list answers for a key, by the table and after each step.
 pub fn calls_keep_others()
     ensures { CacheLaws }
 {

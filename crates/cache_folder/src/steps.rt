@@ -1,12 +1,12 @@
 // The steps of each call on the files.
-ghost use Rattle.std.specs.Prelude.{◌≡◌, ◌+◌, ◌^◌, ◌<◌, ◌≤◌, ℕ, List, [], ◌++◌, length, Some, Err, IsOk, IsSome};
+ghost use Rattle.std.specs.Prelude.{◌≡◌, ◌+◌, ◌^◌, ◌<◌, ◌≤◌, ℕ, List, [], ◌++◌, length, Some, None, Err, IsOk, IsSome};
 ghost use Rattle.std.specs.FinMap.{get};
 ghost use Rattle.outside.specs.Causes.{HasCause};
 ghost use Rattle.outside.specs.Files.{Changes, appended};
 ghost use Rattle.journal_lines.specs.Lines.{spelled, HasShortLengths};
 ghost use Rattle.journal_lines.specs.Journal.{ended};
 ghost use Rattle.disk_table.specs.UseOrder.{IsShort, without, value_at, used};
-ghost use Rattle.cache_folder.specs.Offered.{journal_name, edit_name};
+ghost use Rattle.cache_folder.specs.Offered.{journal_name, value_name, edit_name};
 ghost use Rattle.cache_folder.specs.Steps.{Doubt, Commit, Use, Drop, stepped};
 ghost use Rattle.cache_folder.specs.Images.{IfKnown, WasKnown, Runs};
 ghost use Rattle.cache_folder.specs.Tables.{kept, begun, committed, aborted, grown_edit, line_back, edit_at, len_at};
@@ -158,6 +158,8 @@ pub fn remove<F: Files>(
     ensures lines { IsOk result → AddsLines 1 (F.history files.old) (F.history files.new) }
     ensures left { IfKnown (F.history files.old)
         (λ h. IfKnown (F.history files.new) (λ k. MayLose key.now h.held k.held)) }
+    ensures gone { IsOk result
+        → IfKnown (F.history files.new) (λ k. get k.held (value_name key.now) ≡ None) }
     ensures known { WasKnown (F.history files.old) (F.history files.new) }
     ensures cause { HasCause (F.faults files.old) (F.faults files.new) (result ≡ Err FileFault.Failed) }
 {

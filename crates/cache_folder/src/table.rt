@@ -7,7 +7,7 @@ ghost use Rattle.journal_lines.specs.Journal.{header, ended, text_of};
 ghost use Rattle.disk_table.specs.UseOrder.{IsOnce, IsShort, is_known, without, used};
 ghost use Rattle.disk_table.specs.Table.{no_entries, edit_of, free_edit, is_full_for, is_under_edit, eldest_over, is_due, has_room_for, after_line, clean_length, keys_in};
 ghost use Rattle.cache_folder.specs.Starts.{HasNoEdits};
-ghost use Rattle.cache_folder.specs.Tables.{CountsLine, kept, len_at, edit_at, is_offered, begun, committed, aborted, grown_edit, hidden, line_for, lines_for};
+ghost use Rattle.cache_folder.specs.Tables.{CountsLine, kept, len_at, edit_at, is_offered, begun, committed, aborted, grown_edit, closed_at, hidden, line_for, lines_for};
 
 use disk_table::{DiskTable, EditRefused, Keys};
 use faults::NoMemory;
@@ -117,6 +117,8 @@ impl CacheTable {
         ensures edits { IfOk result (λ number. self.new.table.edits ≡ set self.old.table.edits number
             (Some key.now)) }
         ensures open { IfOk result (λ number. edit_of key.now self.new.table.edits ≡ Some number) }
+        ensures back { IfOk result (λ number.
+            closed_at (Some number) self.new.table.edits ≡ self.old.table.edits) }
         ensures others { IfOk result (λ number. (k : List ℕ) → k ≢ key.now
             → edit_of k self.new.table.edits ≡ edit_of k self.old.table.edits) }
         ensures within { IfOk result (λ number. number < 16) }
@@ -186,6 +188,8 @@ impl CacheTable {
     /// Takes the key out, with its edit.
     pub fn forget(&mut self, key: &Key)
         ensures kept { kept self.new ≡ without key.now (kept self.old) }
+        ensures edits { self.new.table.edits
+            ≡ closed_at (edit_of key.now self.old.table.edits) self.old.table.edits }
         ensures closed { edit_of key.now self.new.table.edits ≡ None }
         ensures others { (k : List ℕ) → k ≢ key.now
             → edit_of k self.new.table.edits ≡ edit_of k self.old.table.edits }

@@ -1,5 +1,5 @@
 -- A call, with the rebuilds before it and behind it.
-use Rattle.std.proofs.Common.{◌≡◌, ◌⊎◌, ℕ, Bool, List, [], ◌∷◌, Some, refl, sym, ap, subst, ◌∙◌, inl, inr}
+use Rattle.std.proofs.Common.{◌≡◌, ◌≢◌, ◌⊎◌, ℕ, Bool, List, [], ◌∷◌, Some, refl, sym, ap, subst, ◌∙◌, inl, inr}
 use Rattle.std.specs.FinMap.{get}
 use Rattle.outside.specs.Files.{Folder, FolderHistory, passed_through}
 use Rattle.disk_table.specs.UseOrder.{without}
@@ -7,11 +7,12 @@ use Rattle.disk_table.specs.Table.{edit_of}
 use Rattle.cache_folder.specs.Offered.{edit_name, offered}
 use Rattle.cache_folder.specs.Steps.{Drop, all_stepped, offers}
 use Rattle.cache_folder.specs.Images.{IfKnown, WasKnown, Runs, OffersEither}
-use Rattle.cache_folder.specs.Sound.{listed, SameEntries, MayLose, Way, Done, RebuildWay}
+use Rattle.cache_folder.specs.Tables.{closed_at}
+use Rattle.cache_folder.specs.Sound.{listed, SameLength, SameEntries, MayLose, Way, Done, RebuildWay}
 use Rattle.cache_folder.specs.Allowed.{Pass, IsWithin, values_of, handed_by}
 use Rattle.cache_folder.specs.Laws.{CacheLaws}
 use Rattle.disk_lru.specs.State.{CacheState, entries, edits, list_of, Offers, IsSettled}
-use Rattle.disk_lru.specs.Calls.{Steps, drop_steps, StaysWithin, OffersOneOf, Passage, CallOn, Makes, Fails, Stays}
+use Rattle.disk_lru.specs.Calls.{Steps, drop_steps, StaysWithin, OffersOneOf, Passage, CallOn, StillAnswers, Makes, Fails, Stays}
 use Rattle.disk_lru.specs.inside.Rebuilds.{Rebuilds, Took}
 use Rattle.disk_lru.proofs.Runs.{run_none, run_more, run_weaken, run_has, known_more, same_some}
 
@@ -214,6 +215,29 @@ module _ (laws : CacheLaws) where
   pub call_rebuild : (key : List ℕ) (old new : CacheState) → Rebuilds old new → CallOn key (λ f. []) (λ f. []) old new
   call_rebuild key old new r = call_rebuilt key (λ f. []) old old new (call_none key old) r
 
+  -- ---- what the cache answers
+
+  pub answers_then : (any : List ℕ) (a b c : CacheState) → WasKnown b.history c.history → StillAnswers any a b → StillAnswers any b c → StillAnswers any a c
+  answers_then any a b c known x y h e k e' same = let m = known k e' in y m.0 m.1 k e' (x h e m.0 m.1 same)
+
+  -- the same table, and a list that has the same of the key
+  pub answers_same : (any : List ℕ) (old new : CacheState) → entries new ≡ entries old → IfKnown old.history (λ h. IfKnown new.history (λ k. list_of k.held new ≡ list_of h.held old)) → StillAnswers any old new
+  answers_same any old new is list h e k e' same = subst (λ t. SameLength any t (list_of k.held new)) (sym is) (subst (SameLength any (entries old)) (sym (list h e k e')) same)
+
+  pub answers_rebuilt : (any : List ℕ) (old new : CacheState) → Rebuilds old new → StillAnswers any old new
+  answers_rebuilt any old new r = answers_same any old new r.entries_are (λ h e k e'. rebuilt_list old new r h k e e')
+
+  -- a key was forgotten, and the list dropped it
+  pub answers_forgot : (key any : List ℕ) (old new : CacheState) → entries new ≡ without key (entries old) → IfKnown old.history (λ h. IfKnown new.history (λ k. list_of k.held new ≡ without key (list_of h.held old))) → StillAnswers any old new
+  answers_forgot key any old new is list h e k e' same =
+      subst (λ t. SameLength any t (list_of k.held new)) (sym is) (subst (SameLength any (without key (entries old))) (sym (list h e k e')) (laws.length_dropped any key (entries old) (list_of h.held old) same))
+
+  -- a key has lost its value
+  pub answers_lost : (key : List ℕ) (old new : CacheState) → entries new ≡ entries old → IfKnown old.history (λ h. IfKnown new.history (λ k. without key (list_of k.held new) ≡ without key (list_of h.held old)))
+      → (other : List ℕ) → other ≢ key → StillAnswers other old new
+  answers_lost key old new is others other ne h e k e' same =
+      subst (λ t. SameLength other t (list_of k.held new)) (sym is) (laws.length_others key other (entries old) (list_of h.held old) (list_of k.held new) ne (others h e k e') same)
+
   -- ---- an eviction that failed
 
   abbrev pub Lost : List ℕ → CacheState → CacheState → Type 0
@@ -241,6 +265,7 @@ module _ (laws : CacheLaws) where
     entries_are = entries_are;
     edits_are = edits_are;
     others = λ h e k e'. ap (λ t. without key (listed k.held t)) entries_are ∙ laws.lost_listed key h.held k.held (entries old) (lost h e k e');
+    answers = answers_lost key old new entries_are (λ h e k e'. ap (λ t. without key (listed k.held t)) entries_are ∙ laws.lost_listed key h.held k.held (entries old) (lost h e k e'));
     files = λ h e k e' any. laws.lost_edits key any h.held k.held (lost h e k e');
   }
 
@@ -254,6 +279,7 @@ module _ (laws : CacheLaws) where
     entries_are = r.entries_are;
     edits_are = r.edits_are;
     others = λ h e k e'. ap (without key) (rebuilt_list old new r h k e e');
+    answers = λ other ne. answers_rebuilt other old new r;
     files = λ h e k e' any. laws.entries_edits any h.held k.held (same_entries old new r h k e e');
   }
 
@@ -263,6 +289,7 @@ module _ (laws : CacheLaws) where
     entries_are = x.entries_are ∙ r.entries_are;
     edits_are = x.edits_are ∙ r.edits_are;
     others = λ h e k e'. let m = x.passage.known k e' in x.others m.0 m.1 k e' ∙ ap (without key) (rebuilt_list old mid r h m.0 e m.1);
+    answers = λ other ne. answers_then other old mid new x.passage.known (answers_rebuilt other old mid r) (x.answers other ne);
     files = λ h e k e' any. let m = x.passage.known k e' in x.files m.0 m.1 k e' any ∙ laws.entries_edits any h.held m.0.held (same_entries old mid r h m.0 e m.1);
   }
 
@@ -272,6 +299,7 @@ module _ (laws : CacheLaws) where
   makes_by key steps old a b new r stable x r' settled = record {
     call = call_rebuilt key steps old b new (call_ready key steps steps old a b r stable stable x.call) r';
     offers_now = λ k e. let m = r'.known k e in rebuilt_offers b new r' m.0 k m.1 e (x.offers_now m.0 m.1);
+    answers = λ any. answers_then any old b new r'.known (answers_then any old a b x.call.passage.known (answers_rebuilt any old a r) (x.answers any)) (answers_rebuilt any b new r');
     settled = settled;
   }
 
@@ -279,8 +307,13 @@ module _ (laws : CacheLaws) where
   fails_after key steps old mid new r stable x = record {
     forgets = record {
       entries_are = x.forgets.entries_are ∙ ap (without key) r.entries_are;
-      edit = record { own = x.forgets.edit.own; others = λ other ne. x.forgets.edit.others other ne ∙ ap (edit_of other) r.edits_are };
+      edit = record {
+        edits_are = x.forgets.edit.edits_are ∙ ap (λ l. closed_at (edit_of key l) l) r.edits_are;
+        own = x.forgets.edit.own;
+        others = λ other ne. x.forgets.edit.others other ne ∙ ap (edit_of other) r.edits_are;
+      };
       due = x.forgets.due;
     };
     call = call_ready key steps (λ f. Drop key ∷ []) old mid new r stable (λ f g same. refl) x.call;
+    answers = λ any. answers_then any old mid new x.call.passage.known (answers_rebuilt any old mid r) (x.answers any);
   }

@@ -1,5 +1,5 @@
 -- Evictions at a start, one after the other.
-use Rattle.std.proofs.Common.{◌≡◌, ◌≢◌, ℕ, ◌+◌, ◌<◌, ◌≤◌, Bool, true, false, cond, List, [], ◌∷◌, ◌++◌, length, map, Some, None, Ok, refl, sym, ap, subst, ◌∙◌, append_assoc, append-nil, arith, is_some, unwrap_or, ◌||◌}
+use Rattle.std.proofs.Common.{◌≡◌, ◌≢◌, ℕ, ◌+◌, ◌<◌, ◌≤◌, Bool, true, false, cond, List, [], ◌∷◌, ◌++◌, length, Some, None, Ok, refl, sym, ap, subst, ◌∙◌, append_assoc, append-nil, arith, is_some, option_and_then, inl, ◌||◌}
 use Rattle.std.specs.Prelude.{nat_lt, sum_by}
 use Rattle.std.specs.declared.option.Option.{Option}
 use Rattle.std.specs.Option.{option_map}
@@ -8,20 +8,20 @@ use Rattle.std.specs.Str.{bytes_eq}
 use lib.ListN.{replicate}
 use Rattle.std.proofs.lemmas.List.Sums.{sum_by-cons}
 use Rattle.std.proofs.lemmas.Slice.Eq.{bytes_eq-Decides}
-use Rattle.outside.specs.Files.{FolderHistory, passed_through}
+use Rattle.outside.specs.Files.{Folder, FolderHistory, passed_through}
 use Rattle.disk_table.specs.UseOrder.{Entries, IsOnce, without, value_at, is_known, length_in, size_of}
-use Rattle.disk_table.specs.Table.{TableValue, edit_of, is_under_edit, is_over, keys_in, eldest_closed, eldest_over}
+use Rattle.disk_table.specs.Table.{edit_of, is_under_edit, is_over, keys_in, eldest_closed, eldest_over}
 use Rattle.cache_folder.specs.Offered.{Replayed, offered}
-use Rattle.cache_folder.specs.Sound.{listed}
+use Rattle.cache_folder.specs.Sound.{listed, SameLength}
 use Rattle.cache_folder.specs.Allowed.{handed_by}
-use Rattle.cache_folder.specs.Steps.{CacheStep, Drop}
+use Rattle.cache_folder.specs.Steps.{Entry, CacheStep, Drop}
 use Rattle.cache_folder.specs.Tables.{Kept, Table, CacheTableValue, mapped, kept_by, kept}
-use Rattle.cache_folder.specs.Starts.{HasNoEdits, IsOpen, list_of_pairs, lengths_in, are_over, evictions, staying}
-use Rattle.disk_lru.specs.State.{CacheState, entries, list_of}
+use Rattle.cache_folder.specs.Starts.{HasNoEdits, IsOpen, Belongs, list_of_pairs, lengths_in, are_over, evictions, staying}
+use Rattle.disk_lru.specs.State.{list_of}
 use Rattle.disk_lru.specs.Calls.{drop_steps}
 use Rattle.disk_lru.specs.Past.{DiskState, steps_at}
 use Rattle.disk_lru.specs.Started.{one_by_one, kept_of, IsStarted}
-use Rattle.disk_lru.specs.Trims.{Trims}
+use Rattle.disk_lru.specs.Trims.{Trims, HasNoOther}
 use Rattle.disk_lru.specs.inside.Evicting.{IsEvicting}
 use Rattle.disk_lru.proofs.Runs.{same_some}
 
@@ -135,6 +135,7 @@ module _ (maximum : ℕ) (all : Pairs) (old new : DiskState) (key : List ℕ) (t
         stays = o.stays ∙ ap (staying maximum) is ∙ ap (λ b. cond b (staying maximum ps) (p ∷ ps)) over;
         list = made.call.list o.history o.known (passed_through run.contents o.history) run.after_is
             ∙ (λ i. without (same i) ((o.list ∙ ap list_of_pairs is) i)) ∙ first_gone p.0 _ (list_of_pairs ps) (apart_list p.0 ps once.0);
+        files = (trims.files refl).none o.history o.known (passed_through run.contents o.history) run.after_is o.files;
       }
 
   pub evict_more : IsEvicting maximum all old → eldest_over maximum old.cache.table.table ≡ Some key → IsEvicting maximum all new
@@ -159,6 +160,18 @@ all_left maximum t (p ∷ ps) is none = by (are_over maximum (p ∷ ps)) refl wh
 
 -- ---- before the first
 
+-- the lengths of such a table are those of its list
+lengths_of_pairs : (key : List ℕ) (ps : Pairs) → SameLength key (kept_of ps) (list_of_pairs ps)
+lengths_of_pairs key [] = refl
+lengths_of_pairs key (p ∷ ps) =
+    elim (bytes_eq key p.0) as (λ b. option_and_then (λ (k : Kept). k.len) (cond b (Some (let k : Kept = record { len = Some (length p.1); edit = None } in k)) (value_at key (kept_of ps))) ≡ option_map length (option_and_then (λ (e : Entry (List ℕ)). e.values) (cond b (Some (let e : Entry (List ℕ) = record { values = Some p.1; marked = false } in e)) (value_at key (list_of_pairs ps))))) [
+      | true ↦ refl
+      | false ↦ lengths_of_pairs key ps
+    ]
+
+pub answers_opened : (f : Folder) (t : CacheTableValue) → HasNoEdits t → IsOpen f t → (key : List ℕ) → SameLength key (kept t) (listed f (kept t))
+answers_opened f t free o key = subst (λ k. SameLength key k (listed f (kept t))) (sym (kept_is t (offered f) free o.entries)) (subst (SameLength key (kept_of (offered f))) (sym o.list) (lengths_of_pairs key (offered f)))
+
 once_lengths : (ps : Pairs) → IsOnce (kept_of ps) → IsOnce (lengths_in ps)
 once_lengths [] o = tt
 once_lengths (p ∷ ps) o = (apart p.0 ps o.0, once_lengths ps o.1) where
@@ -181,6 +194,7 @@ evicting_first maximum disk before k t table known calls free o same =
       steps = refl;
       stays = refl;
       list = ap (λ (u : CacheTableValue). listed k.held (kept u)) table ∙ o.list ∙ ap list_of_pairs same;
+      files = record { each = λ name there. inl (subst (λ (u : CacheTableValue). Belongs name u.table.entries) (sym table) (o.tidy name there)) };
     }
 
 -- ---- after the last
@@ -193,6 +207,7 @@ evicting_last maximum disk before o none =
       calls = o.calls ∙ ap (λ l. [] ∷ one_by_one l) (sym (o.steps ∙ ap (λ l. o.done ++ l) ends.0 ∙ append-nil o.done));
       list = λ k e. ap (λ (h : FolderHistory). list_of h.held disk.cache) (same_some _ _ (sym e ∙ o.known)) ∙ o.list ∙ ap list_of_pairs left;
       keeps = o.keeps ∙ ap kept_of left;
+      files = λ k e. subst (λ (h : FolderHistory). HasNoOther h.held disk.cache) (same_some o.history k (sym o.known ∙ e)) o.files;
     }
 
 -- ---- what an eviction adds to the past

@@ -8,3 +8,4 @@ pub mod Promises
 pub mod Results
 pub mod Runs
 pub mod Stays
+pub mod Tidy

@@ -1,18 +1,21 @@
 -- The promise of a cache, one call later.
-use Rattle.std.proofs.Common.{◌≡◌, ℕ, Bool, true, false, ◌||◌, ◌&&◌, List, [], ◌∷◌, ◌++◌, Some, refl, sym, ap, subst, ◌∙◌, append_assoc, append-nil, inl, inr}
+use Rattle.std.proofs.Common.{◌≡◌, ℕ, Bool, true, false, cond, ◌||◌, ◌&&◌, List, [], ◌∷◌, ◌++◌, Some, None, is_some, refl, sym, ap, subst, ◌∙◌, append_assoc, append-nil, inl, inr}
 use Rattle.std.specs.declared.option.Option.{Option}
 use Rattle.std.specs.List.{AllByRecursion}
 use Rattle.std.specs.Str.{bytes_eq}
 use Rattle.std.proofs.lemmas.List.Folds.{list_any-append}
 use Rattle.std.proofs.lemmas.Slice.Eq.{bytes_eq-Decides}
-use Rattle.outside.specs.Files.{Folder, FolderHistory, passed_through}
-use Rattle.cache_folder.specs.Offered.{offered}
-use Rattle.cache_folder.specs.Steps.{Cached, CacheStep, all_stepped, offers}
+use Rattle.std.specs.FinMap.{get}
+use Rattle.outside.specs.Files.{Folder, FolderHistory, last_of, passed_through}
+use Rattle.cache_folder.specs.Offered.{value_name, offered}
+use Rattle.cache_folder.specs.Steps.{Cached, CacheStep, all_stepped, offers, answer_at}
 use Rattle.cache_folder.specs.Images.{IfKnown, WasKnown, Runs, OffersEither}
+use Rattle.cache_folder.specs.Tables.{is_offered}
+use Rattle.cache_folder.specs.Laws.{CacheLaws}
 use Rattle.cache_folder.specs.Sound.{listed}
 use Rattle.cache_folder.specs.Starts.{list_of_pairs}
 use Rattle.cache_folder.specs.Allowed.{Pass, IsWithin, values_of, handed_by}
-use Rattle.disk_lru.specs.State.{CacheState, entries, list_of, Offers}
+use Rattle.disk_lru.specs.State.{CacheState, entries, list_of, Offers, AnswersFor}
 use Rattle.disk_lru.specs.Calls.{Steps, Passage, Makes}
 use Rattle.disk_lru.specs.Past.{PastValue, DiskState, steps_at, after_call, opening, after_calls, InTurn, IsOnCourse, is_pair, is_among, given, OffersGiven, Promise}
 use Rattle.disk_lru.proofs.Runs.{weaken, last_append, passed_append, run_more, run_weaken, run_has, known_more, same_some}
@@ -41,6 +44,7 @@ course_more past h old new key steps o x =
       in_turn = in_turn_more (opening h) past.calls o.contents run.contents made o.in_turn (subst (λ l. AllByRecursion (OffersEither l (all_stepped l made)) run.contents) o.list each);
       list = ap (λ f. list_of f new) (last_append h.held o.contents run.contents) ∙ x.call.list k o.after_is _ run.after_is ∙ ap (λ l. all_stepped l made) o.list ∙ sym (after_calls-append (opening h) past.calls made);
       offers_now = subst (λ f. Offers f new) (sym (last_append h.held o.contents run.contents)) (x.offers_now _ run.after_is);
+      answers = λ any. subst (λ f. AnswersFor any f new) (sym (last_append h.held o.contents run.contents)) (x.answers any k o.after_is _ run.after_is (o.answers any));
     }
 
 -- ---- whatever failed
@@ -52,13 +56,13 @@ right_true : (a b : Bool) → b ≡ true → (a || b) ≡ true
 right_true true b h = refl
 right_true false b h = h
 
-among_first : (p : List ℕ × List ℕ) (xs ys : List (List ℕ × List ℕ)) → is_among xs p ≡ true → is_among (xs ++ ys) p ≡ true
+pub among_first : (p : List ℕ × List ℕ) (xs ys : List (List ℕ × List ℕ)) → is_among xs p ≡ true → is_among (xs ++ ys) p ≡ true
 among_first p xs ys h = list_any-append (is_pair p) xs ys ∙ left_true (is_among xs p) (is_among ys p) h
 
-among_second : (p : List ℕ × List ℕ) (xs ys : List (List ℕ × List ℕ)) → is_among ys p ≡ true → is_among (xs ++ ys) p ≡ true
+pub among_second : (p : List ℕ × List ℕ) (xs ys : List (List ℕ × List ℕ)) → is_among ys p ≡ true → is_among (xs ++ ys) p ≡ true
 among_second p xs ys h = list_any-append (is_pair p) xs ys ∙ right_true (is_among xs p) (is_among ys p) h
 
-same_pair : (p : List ℕ × List ℕ) → is_pair p p ≡ true
+pub same_pair : (p : List ℕ × List ℕ) → is_pair p p ≡ true
 same_pair p = ap (λ b. b && bytes_eq p.1 p.1) ((bytes_eq-Decides p.0 p.0).1 refl) ∙ (bytes_eq-Decides p.1 p.1).1 refl
 
 pub own_pass : (xs : List (List ℕ × List ℕ)) → Pass (is_among xs) xs
@@ -85,6 +89,22 @@ given_more past h old new steps failed g x =
           (run_more (λ c. Pass (is_among all) (offered c)) h old.history new.history first (subst (λ m. Runs (λ c. Pass (is_among all) (offered c)) m new.history) reached s.moments));
       within = subst (λ l. IfKnown new.history (λ m. IsWithin (is_among l) m.held (entries new))) is s.within;
     }
+
+-- ---- what the cache answers
+
+module _ (laws : CacheLaws) (s : DiskState) (key : List ℕ) where
+  -- where no call has failed, it is what the list answers after the steps so far
+  pub answers_after : Promise s → s.past.failed ≡ false → IfKnown s.past.entry (λ h. is_offered key (entries s.cache) ≡ is_some (answer_at key (after_calls (opening h) s.past.calls)))
+  answers_after p none h e = let o = p.course none h e in
+      laws.answers_offered key (last_of h.held o.contents) (entries s.cache) (o.answers key) ∙ ap (λ es. is_some (answer_at key es)) o.list
+
+  -- the bytes that were read are what the list answers
+  pub read_now : (found : Option (List ℕ)) → IfKnown s.cache.history (λ h. found ≡ cond (is_offered key (entries s.cache)) (get h.held (value_name key)) None) → IfKnown s.cache.history (λ h. found ≡ answer_at key (list_of h.held s.cache))
+  read_now found is h e = is h e ∙ sym (laws.list_answers key h.held (entries s.cache))
+
+  pub read_after : (found : Option (List ℕ)) → IfKnown s.cache.history (λ h. found ≡ cond (is_offered key (entries s.cache)) (get h.held (value_name key)) None) → Promise s → s.past.failed ≡ false
+      → IfKnown s.past.entry (λ h. found ≡ answer_at key (after_calls (opening h) s.past.calls))
+  read_after found is p none h e = let o = p.course none h e in read_now found is (passed_through o.contents h) o.after_is ∙ ap (answer_at key) o.list
 
 -- ---- both
 
@@ -116,7 +136,7 @@ promise_after s before new past steps failed key p same is ok err =
 pub promise_same : (s : DiskState) (new : CacheState) → Promise s → new ≡ record s.cache { faults = new.faults } → Promise (record { cache = new; past = s.past })
 promise_same s new p same = subst (λ c. Promise (record { cache = c; past = s.past })) (sym same) record {
   known = p.known;
-  course = λ none h e. let o = p.course none h e in record { contents = o.contents; after_is = o.after_is; in_turn = o.in_turn; list = o.list; offers_now = o.offers_now };
+  course = λ none h e. let o = p.course none h e in record { contents = o.contents; after_is = o.after_is; in_turn = o.in_turn; list = o.list; offers_now = o.offers_now; answers = o.answers };
   given_only = λ h e. let g = p.given_only h e in record { moments = g.moments; within = g.within };
 }
 
@@ -131,8 +151,9 @@ offers_pairs [] = refl
 offers_pairs (p ∷ pairs) = ap (λ l. p ∷ l) (offers_pairs pairs)
 
 pub promise_start : (entry : Option FolderHistory) (cache : CacheState) (past : PastValue) → past ≡ record { entry = entry; calls = [] ∷ []; handed = []; failed = false } → WasKnown entry cache.history
-    → IfKnown entry (λ h. Runs (λ c. offered c ≡ offered h.held) h cache.history) → IfKnown entry (λ h. IfKnown cache.history (λ k. list_of k.held cache ≡ opening h)) → Promise (record { cache = cache; past = past })
-promise_start entry cache past is known moments list = subst (λ q. Promise (record { cache = cache; past = q })) (sym is) record {
+    → IfKnown entry (λ h. Runs (λ c. offered c ≡ offered h.held) h cache.history) → IfKnown entry (λ h. IfKnown cache.history (λ k. list_of k.held cache ≡ opening h))
+    → IfKnown cache.history (λ k. (key : List ℕ) → AnswersFor key k.held cache) → Promise (record { cache = cache; past = past })
+promise_start entry cache past is known moments list answers = subst (λ q. Promise (record { cache = cache; past = q })) (sym is) record {
   known = known;
   course = λ none h e. let run = moments h e in record {
     contents = run.contents;
@@ -140,6 +161,7 @@ promise_start entry cache past is known moments list = subst (λ q. Promise (rec
     in_turn = (run.contents, [], sym (append-nil run.contents), weaken _ _ (λ c y. inl (y ∙ sym (offers_pairs (offered h.held)))) run.contents run.each, refl);
     list = list h e _ run.after_is;
     offers_now = run.here ∙ sym (offers_pairs (offered h.held)) ∙ ap offers (sym (list h e _ run.after_is));
+    answers = answers _ run.after_is;
   };
   given_only = λ h e.
       let same : offered h.held ++ [] ≡ offered h.held = append-nil _ in

@@ -7,10 +7,10 @@ use Rattle.disk_table.specs.Table.{edit_of}
 use Rattle.cache_folder.specs.Offered.{edit_name, offered}
 use Rattle.cache_folder.specs.Steps.{Cached, CacheStep, Doubt, Commit, Use, Drop, all_stepped}
 use Rattle.cache_folder.specs.Images.{IfKnown, WasKnown, Runs, OffersEither}
-use Rattle.cache_folder.specs.Tables.{len_at}
+use Rattle.cache_folder.specs.Tables.{len_at, closed_at}
 use Rattle.cache_folder.specs.Sound.{text_at, abort_step}
 use Rattle.cache_folder.specs.Allowed.{Pass, IsWithin, handed_by}
-use Rattle.disk_lru.specs.State.{CacheState, entries, edits, list_of, Offers, IsSettled}
+use Rattle.disk_lru.specs.State.{CacheState, entries, edits, list_of, Offers, AnswersFor, IsSettled}
 
 -- ---- the steps of the calls
 
@@ -69,6 +69,11 @@ pub record CallOn (key : List ℕ) (meant made : Steps) (old new : CacheState) :
   pub others : IfKnown old.history (λ h. IfKnown new.history (λ k.
       (other : List ℕ) → other ≢ key → get k.held (edit_name other) ≡ get h.held (edit_name other)))
 
+-- where the cache answered for the key what its list does, it still does
+abbrev pub StillAnswers : List ℕ → CacheState → CacheState → Type 0
+StillAnswers key old new = IfKnown old.history (λ h. IfKnown new.history (λ k.
+    AnswersFor key h.held old → AnswersFor key k.held new))
+
 -- ---- a call that succeeded
 
 -- The list made its steps, and now the files offer it. A rebuild of the journal that was due by the number of its lines was
@@ -76,12 +81,14 @@ pub record CallOn (key : List ℕ) (meant made : Steps) (old new : CacheState) :
 pub record Makes (key : List ℕ) (steps : Steps) (old new : CacheState) : Type 0 where
   pub call : CallOn key steps steps old new
   pub offers_now : IfKnown new.history (λ k. Offers k.held new)
+  pub answers : (any : List ℕ) → StillAnswers any old new
   pub settled : IsSettled new
 
 -- ---- a call that failed
 
--- the edit of the key is closed, and those of other keys are as they were
+-- the edit of the key is closed if it had one, and those of other keys are as they were
 pub record ClosesEdit (key : List ℕ) (old new : CacheState) : Type 0 where
+  pub edits_are : edits new ≡ closed_at (edit_of key (edits old)) (edits old)
   pub own : edit_of key (edits new) ≡ None
   pub others : (other : List ℕ) → other ≢ key → edit_of other (edits new) ≡ edit_of other (edits old)
 
@@ -95,6 +102,7 @@ pub record Forgets (key : List ℕ) (old new : CacheState) : Type 0 where
 pub record Fails (key : List ℕ) (steps : Steps) (old new : CacheState) : Type 0 where
   pub forgets : Forgets key old new
   pub call : CallOn key steps (drop_steps key) old new
+  pub answers : (any : List ℕ) → StillAnswers any old new
 
 -- What a failed eviction leaves of a key: the table is as it was, but its value may be gone. The edits' files are as they were,
 -- and each moment of it is one of a call that was to drop the key.
@@ -105,6 +113,7 @@ pub record Stays (key : List ℕ) (old new : CacheState) : Type 0 where
   -- the list has all other keys as they were
   pub others : IfKnown old.history (λ h. IfKnown new.history (λ k.
       without key (list_of k.held new) ≡ without key (list_of h.held old)))
+  pub answers : (other : List ℕ) → other ≢ key → StillAnswers other old new
   pub files : IfKnown old.history (λ h. IfKnown new.history (λ k.
       (any : List ℕ) → get k.held (edit_name any) ≡ get h.held (edit_name any)))
 

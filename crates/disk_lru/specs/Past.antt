@@ -9,7 +9,7 @@ use Rattle.cache_folder.specs.Steps.{Cached, CacheStep, all_stepped}
 use Rattle.cache_folder.specs.Images.{IfKnown, WasKnown, Runs, OffersEither}
 use Rattle.cache_folder.specs.Starts.{list_offered}
 use Rattle.cache_folder.specs.Allowed.{Pass, IsWithin, handed_by}
-use Rattle.disk_lru.specs.State.{CacheState, entries, list_of, Offers}
+use Rattle.disk_lru.specs.State.{CacheState, entries, list_of, Offers, AnswersFor}
 use Rattle.disk_lru.specs.Calls.{Steps}
 
 pub record PastValue : Type 0 where
@@ -63,14 +63,15 @@ InTurn es [] contents = contents ≡ []
 InTurn es (call ∷ calls) contents = (own : List Folder) × (later : List Folder) × (contents ≡ own ++ later)
     × AllByRecursion (OffersEither es (all_stepped es call)) own × InTurn (all_stepped es call) calls later
 
--- The moments since `start` was called are those of the calls, in turn. Now the list is where their steps lead, and the files
--- offer it.
+-- The moments since `start` was called are those of the calls, in turn. Now the list is where their steps lead, the files offer
+-- it, and the cache answers for each key what the list does.
 pub record IsOnCourse (past : PastValue) (entry : FolderHistory) (cache : CacheState) : Type 0 where
   pub contents : List Folder
   pub after_is : cache.history ≡ Some (passed_through contents entry)
   pub in_turn : InTurn (opening entry) past.calls contents
   pub list : list_of (last_of entry.held contents) cache ≡ after_calls (opening entry) past.calls
   pub offers_now : Offers (last_of entry.held contents) cache
+  pub answers : (key : List ℕ) → AnswersFor key (last_of entry.held contents) cache
 
 -- ---- whatever failed
 

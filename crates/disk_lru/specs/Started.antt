@@ -11,6 +11,7 @@ use Rattle.cache_folder.specs.Allowed.{Pass}
 use Rattle.cache_folder.specs.Starts.{list_of_pairs, evictions, staying}
 use Rattle.disk_lru.specs.State.{entries, list_of}
 use Rattle.disk_lru.specs.Past.{PastValue, DiskState, is_among}
+use Rattle.disk_lru.specs.Trims.{HasNoOther}
 
 -- each step as a call of its own
 abbrev pub one_by_one : List (CacheStep (List ℕ)) → List (List (CacheStep (List ℕ)))
@@ -30,6 +31,8 @@ pub record IsStarted (maximum : ℕ) (before : FolderHistory) (disk : DiskState)
   pub list : IfKnown disk.cache.history (λ k. list_of k.held disk.cache ≡ list_of_pairs (staying maximum (offered before.held)))
   -- and no key is under edit
   pub keeps : entries disk.cache ≡ kept_of (staying maximum (offered before.held))
+  -- no other file is held
+  pub files : IfKnown disk.cache.history (λ k. HasNoOther k.held disk.cache)
 
 -- whatever failed: each moment of the start offers only what was offered before it
 abbrev pub OffersNoMore : Option FolderHistory → Option FolderHistory → Type 0

@@ -10,7 +10,7 @@ use Rattle.cache_folder.specs.Offered.{offered}
 use Rattle.cache_folder.specs.Steps.{Cached, offers}
 use Rattle.cache_folder.specs.Images.{IfKnown}
 use Rattle.cache_folder.specs.Tables.{Table, CacheTableValue, kept}
-use Rattle.cache_folder.specs.Sound.{listed}
+use Rattle.cache_folder.specs.Sound.{listed, SameLength}
 
 -- a folder is kept apart by its entries
 abbrev pub folder_code : Coded Folder
@@ -48,6 +48,10 @@ list_of folder cache = listed folder (entries cache)
 -- the folder offers what the list of the cache offers
 abbrev pub Offers : Folder → CacheState → Type 0
 Offers folder cache = offered folder ≡ offers (list_of folder cache)
+
+-- The table has for the key the length of the bytes that the list has: so the cache answers for it what the list does.
+abbrev pub AnswersFor : List ℕ → Folder → CacheState → Type 0
+AnswersFor key folder cache = SameLength key (entries cache) (list_of folder cache)
 
 -- the edit is open in this cache
 abbrev pub IsOpen : EditValue → CacheState → Type 0

@@ -1,16 +1,19 @@
 // A disk cache without its past.
-ghost use Rattle.std.specs.Prelude.{◌≡◌, ◌⊎◌, ◌+◌, ◌<◌, ◌^◌, ◌++◌, ℕ, length, List, [], Bool, true, false, Ok, Some, None, Err, IsOk, IsErr, IsSome, IfOk, IfSome, is_err, set};
+ghost use Rattle.std.specs.Prelude.{◌≡◌, ◌⊎◌, ◌+◌, ◌<◌, ◌≤◌, ◌^◌, ◌++◌, ℕ, length, List, [], Bool, true, false, Ok, Some, None, Err, IsOk, IsErr, IsSome, IfOk, IfSome, is_err, is_some, set};
 ghost use Rattle.std.specs.Option.{option_map};
 ghost use Rattle.std.specs.FinMap.{get};
 ghost use Rattle.outside.specs.Causes.{HasCause};
-ghost use Rattle.disk_table.specs.UseOrder.{is_known, without, used};
+ghost use Rattle.disk_table.specs.UseOrder.{IsOnce, is_known, without, used};
 ghost use Rattle.disk_table.specs.Table.{edit_of, free_edit, is_full_for, eldest_over};
 ghost use Rattle.cache_folder.specs.Images.{IfKnown};
 ghost use Rattle.cache_folder.specs.Offered.{value_name, edit_name};
+ghost use Rattle.cache_folder.specs.Steps.{answer_at};
 ghost use Rattle.cache_folder.specs.Sound.{text_at};
 ghost use Rattle.cache_folder.specs.Tables.{kept, len_at, edit_at, is_offered, begun, committed, aborted, grown_edit};
-ghost use Rattle.disk_lru.specs.State.{CacheState, entries, edits, Offers, IsSettled};
-ghost use Rattle.disk_lru.specs.Calls.{Steps, no_steps, begin_steps, commit_steps, abort_steps, use_steps, drop_steps, CallOn, Makes, Fails, Stays, Forgets, ClosesEdit, Unchanged};
+ghost use Rattle.disk_lru.specs.State.{CacheState, entries, edits, list_of, Offers, AnswersFor, IsSettled};
+ghost use Rattle.disk_lru.specs.Calls.{Steps, no_steps, begin_steps, commit_steps, abort_steps, use_steps, drop_steps, CallOn, StillAnswers, Makes, Fails, Stays, Forgets, ClosesEdit, Unchanged};
+ghost use Rattle.disk_lru.specs.Trims.{AddsNoOther};
+ghost use Rattle.disk_lru.specs.Staying.{HasEntry};
 ghost use Rattle.disk_lru.specs.inside.Kept.{Keeps};
 ghost use Rattle.disk_lru.specs.inside.Rebuilds.{Rebuilds, Took};
 
@@ -301,6 +304,7 @@ impl<F: Files> OpenCache<F> {
         requires known { is_known key.now (entries self.old) ≡ true }
         ensures ok { IsOk result → entries self.new ≡ without key.now (entries self.old) }
         ensures edit { IsOk result → ClosesEdit key.now self.old self.new }
+        ensures files { IsOk result → AddsNoOther self.old self.new }
         ensures took { IsOk result → Took key.now (drop_steps key.now) self.old self.new }
         ensures stays { IsErr result → Stays key.now self.old self.new }
         ensures due { IsErr result → self.new.due ≡ true }
@@ -430,6 +434,8 @@ impl<F: Files> OpenCache<F> {
     pub fn trim(&mut self, alloc: Global, key: &Key) -> Result<(), FileFault>
         requires known { is_known key.now (entries self.old) ≡ true }
         ensures ok { IsOk result → entries self.new ≡ without key.now (entries self.old) }
+        ensures edits { edit_of key.now (edits self.old) ≡ None → edits self.new ≡ edits self.old }
+        ensures files { IsOk result → AddsNoOther self.old self.new }
         ensures makes { IsOk result → Makes key.now (drop_steps key.now) self.old self.new }
         ensures stays { IsErr result → Stays key.now self.old self.new }
         ensures due { IsErr result → self.new.due ≡ true }
@@ -450,6 +456,15 @@ impl<F: Files> OpenCache<F> {
         ensures closed { IfSome result (λ key. edit_of key (edits self.now) ≡ None) }
     {
         self.table.eldest_over(self.maximum)
+    }
+
+    /// Each key has one entry, and there are at most 16,400.
+    pub fn keys_are_few(&self)
+        ensures once { IsOnce (entries self.now) }
+        ensures few { length (entries self.now) ≤ 16400 }
+    {
+        calls_keep_others();
+        let _keys = self.table.keys();
     }
 
     /// Whether the key has an entry.
@@ -479,6 +494,8 @@ impl<F: Files> OpenCache<F> {
         ensures ok { IsOk result → (n : ℕ) → edit_at key.now (entries self.old) ≡ Some n
             → entries self.new ≡ committed key.now n (entries self.old) }
         ensures edit { ClosesEdit key.now self.old self.new }
+        ensures stored { IsOk result → IfKnown self.old.history (λ h. IfKnown self.new.history (λ k.
+            HasEntry (key.now, text_at h.held (edit_name key.now)) k.held self.new)) }
         ensures makes { IsOk result → Makes key.now (commit_steps key.now) self.old self.new }
         ensures fails { IsErr result → Fails key.now (commit_steps key.now) self.old self.new }
         ensures maximum { self.new.maximum ≡ self.old.maximum }
@@ -558,8 +575,11 @@ impl<F: Files> OpenCache<F> {
 
     /// Whether the key has a readable value and is not under edit.
     pub fn has(&self, key: &Key) -> bool
-        ensures { result ≡ is_offered key.now (entries self.now) }
+        ensures offered { result ≡ is_offered key.now (entries self.now) }
+        ensures list { IfKnown self.now.history (λ k. AnswersFor key.now k.held self.now
+            → result ≡ is_some (answer_at key.now (list_of k.held self.now))) }
     {
+        calls_keep_others();
         self.table.has(key)
     }
 
@@ -567,6 +587,7 @@ impl<F: Files> OpenCache<F> {
     pub fn rebuild(&mut self, alloc: Global) -> Result<(), FileFault>
         ensures rebuilds { Rebuilds self.old self.new }
         ensures call { (key : List ℕ) → CallOn key no_steps no_steps self.old self.new }
+        ensures answers { (any : List ℕ) → StillAnswers any self.old self.new }
         ensures makes { IsOk result → (key : List ℕ) → Makes key no_steps self.old self.new }
         ensures due { IsErr result → self.new.due ≡ true }
         ensures cause { HasCause self.old.faults self.new.faults (result ≡ Err FileFault.Failed) }

@@ -1,24 +1,27 @@
 // A disk cache.
-ghost use Rattle.std.specs.Prelude.{◌≡◌, ◌⊎◌, ◌+◌, ◌<◌, ◌^◌, ◌++◌, ℕ, length, List, [], Bool, true, false, Ok, Some, None, Err, IsOk, IsErr, IsSome, IsErrOf, IfOk, IfSome, ◌↔◌, is_err, is_some, set, if◌then◌else◌};
+ghost use Rattle.std.specs.Prelude.{◌≡◌, ◌⊎◌, ◌+◌, ◌<◌, ◌≤◌, ◌^◌, ◌++◌, ℕ, length, List, [], Bool, true, false, Ok, Some, None, Err, IsOk, IsErr, IsSome, IsErrOf, IfOk, IfSome, ◌↔◌, is_err, is_some, set, if◌then◌else◌};
 ghost use Rattle.std.specs.Option.{option_map};
 ghost use Rattle.std.specs.FinMap.{get};
 ghost use Rattle.outside.specs.Causes.{HasCause};
-ghost use Rattle.disk_table.specs.UseOrder.{is_known, without, used};
+ghost use Rattle.disk_table.specs.UseOrder.{IsOnce, is_known, without, used};
 ghost use Rattle.disk_table.specs.Table.{edit_of, free_edit, is_full_for, eldest_over};
 ghost use Rattle.cache_folder.specs.Images.{IfKnown, WasKnown, Runs};
 ghost use Rattle.cache_folder.specs.Offered.{value_name, edit_name, offered};
+ghost use Rattle.cache_folder.specs.Steps.{answer_at};
 ghost use Rattle.cache_folder.specs.Sound.{text_at};
 ghost use Rattle.cache_folder.specs.Tables.{kept, len_at, edit_at, is_offered, begun, committed, aborted, grown_edit};
-ghost use Rattle.disk_lru.specs.State.{CacheState, entries, edits, list_of, IsOpen, IsSettled};
-ghost use Rattle.disk_lru.specs.Calls.{Steps, no_steps, begin_steps, commit_steps, abort_steps, use_steps, drop_steps, CallOn, Makes, Fails, Stays, ClosesEdit, Unchanged};
+ghost use Rattle.disk_lru.specs.State.{CacheState, entries, edits, list_of, AnswersFor, IsOpen, IsSettled};
+ghost use Rattle.disk_lru.specs.Calls.{Steps, no_steps, begin_steps, commit_steps, abort_steps, use_steps, drop_steps, CallOn, StillAnswers, Makes, Fails, Stays, ClosesEdit, Unchanged};
 ghost use Rattle.disk_lru.specs.Faults.{get_acts, begin_acts, begin_failed, remove_acts, remove_failed, trim_acts};
-ghost use Rattle.disk_lru.specs.Trims.{Trims};
-ghost use Rattle.disk_lru.specs.Past.{PastValue, DiskState, Promise, opening, at_start, steps_at, after_call};
+ghost use Rattle.disk_lru.specs.Trims.{Trims, AddsNoOther};
+ghost use Rattle.disk_lru.specs.Staying.{HasEntry};
+ghost use Rattle.disk_lru.specs.Past.{PastValue, DiskState, Promise, opening, after_calls, at_start, steps_at, after_call};
 
 use crate::cache::OpenCache;
 use crate::edit::Edit;
 use crate::past::{ListStep, Past, note, started};
 use crate::refusals::{BeginRefused, DiskFault, RemoveRefused};
+use cache_folder::calls_keep_others;
 use journal_lines::Key;
 use outside::{FileFault, Files};
 use std::alloc::Global;
@@ -54,6 +57,7 @@ impl<F: Files> DiskLru<F> {
             Runs (λ c. offered c ≡ offered h.held) h cache.history) }
         requires list { IfKnown (F.history before.now.value) (λ h. IfKnown cache.history (λ k.
             list_of k.held cache ≡ opening h)) }
+        requires answers { IfKnown cache.history (λ k. (key : List ℕ) → AnswersFor key k.held cache) }
         ensures cache { result.cache ≡ cache }
         ensures past { result.past ≡ at_start (F.history before.now.value) }
     {
@@ -63,17 +67,25 @@ impl<F: Files> DiskLru<F> {
         }
     }
 
-    /// What the files offer at each moment since `start` was called.
+    /// What the files offer at each moment since `start` was called; and that each key has one entry, and there are at most 16,400.
     pub fn promise(&self)
-        ensures { Promise self.now }
+        ensures promise { Promise self.now }
+        ensures once { IsOnce (entries self.now.cache) }
+        ensures few { length (entries self.now.cache) ≤ 16400 }
     {
-        let _ = &self.cache;
+        self.cache.keys_are_few();
     }
 
-    /// Whether the key has a readable entry and is not under edit.
+    /// Whether the key has a readable entry and is not under edit. Where no call has failed, this is what the list of the cache
+    /// answers; after a failure too, for each key but one whose eviction failed, since its file may be gone.
     pub fn has(&self, key: &Key) -> bool
-        ensures { result ≡ is_offered key.now (entries self.now.cache) }
+        ensures offered { result ≡ is_offered key.now (entries self.now.cache) }
+        ensures list { IfKnown self.now.cache.history (λ k. AnswersFor key.now k.held self.now.cache
+            → result ≡ is_some (answer_at key.now (list_of k.held self.now.cache))) }
+        ensures calls { self.now.past.failed ≡ false → IfKnown self.now.past.entry (λ h.
+            result ≡ is_some (answer_at key.now (after_calls (opening h) self.now.past.calls))) }
     {
+        calls_keep_others();
         self.cache.has(key)
     }
 
@@ -124,6 +136,11 @@ impl<F: Files> DiskLru<F> {
         ensures bytes { IfKnown self.old.cache.history
             (λ h. IfOk result (λ found. option_map (λ v. v.items) found
             ≡ (if is_offered key.now (entries self.old.cache) then get h.held (value_name key.now) else None))) }
+        ensures list { IfKnown self.old.cache.history (λ h. IfOk result (λ found.
+            option_map (λ v. v.items) found ≡ answer_at key.now (list_of h.held self.old.cache))) }
+        ensures calls { self.old.past.failed ≡ false → IfKnown self.old.past.entry (λ h. IfOk result (λ found.
+            option_map (λ v. v.items) found
+            ≡ answer_at key.now (after_calls (opening h) self.old.past.calls))) }
         ensures offered { IfOk result (λ found. IsSome found
             → is_offered key.now (entries self.old.cache) ≡ true) }
         ensures none { IfOk result (λ found. found ≡ None
@@ -148,6 +165,7 @@ impl<F: Files> DiskLru<F> {
         ensures cause { HasCause self.old.cache.faults self.new.cache.faults
             (result ≡ Err DiskFault.Failed) }
     {
+        calls_keep_others();
         if !self.cache.has(key) {
             return Ok(None);
         }
@@ -235,6 +253,9 @@ impl<F: Files> DiskLru<F> {
         ensures ok { IsOk result → (n : ℕ) → edit_at edit.key (entries self.old.cache) ≡ Some n
             → entries self.new.cache ≡ committed edit.key n (entries self.old.cache) }
         ensures edit { ClosesEdit edit.key self.old.cache self.new.cache }
+        ensures stored { IsOk result → IfKnown self.old.cache.history (λ h.
+            IfKnown self.new.cache.history (λ k.
+            HasEntry (edit.key, text_at h.held (edit_name edit.key)) k.held self.new.cache)) }
         ensures makes { IsOk result → Makes edit.key (commit_steps edit.key) self.old.cache
             self.new.cache }
         ensures fails { IsErr result → Fails edit.key (commit_steps edit.key) self.old.cache
@@ -386,6 +407,9 @@ impl<F: Files> DiskLru<F> {
     fn trim_known(&mut self, alloc: Global, key: &Key) -> Result<(), FileFault>
         requires { is_known key.now (entries self.old.cache) ≡ true }
         ensures ok { IsOk result → entries self.new.cache ≡ without key.now (entries self.old.cache) }
+        ensures edits { edit_of key.now (edits self.old.cache) ≡ None
+            → edits self.new.cache ≡ edits self.old.cache }
+        ensures files { IsOk result → AddsNoOther self.old.cache self.new.cache }
         ensures makes { IsOk result → Makes key.now (drop_steps key.now) self.old.cache self.new.cache }
         ensures stays { IsErr result → Stays key.now self.old.cache self.new.cache }
         ensures due { IsErr result → self.new.cache.due ≡ true }
@@ -433,6 +457,7 @@ impl<F: Files> DiskLru<F> {
         ensures entries { entries self.new.cache ≡ entries self.old.cache }
         ensures edits { edits self.new.cache ≡ edits self.old.cache }
         ensures call { (key : List ℕ) → CallOn key no_steps no_steps self.old.cache self.new.cache }
+        ensures answers { (any : List ℕ) → StillAnswers any self.old.cache self.new.cache }
         ensures makes { IsOk result → (key : List ℕ)
             → Makes key no_steps self.old.cache self.new.cache }
         ensures due { IsErr result → self.new.cache.due ≡ true }

@@ -3,11 +3,11 @@ use Rattle.std.specs.Prelude.{◌≡◌, ℕ, List, [], ◌∷◌, ◌++◌, Som
 use Rattle.outside.specs.Files.{FolderHistory}
 use Rattle.disk_table.specs.UseOrder.{IsOnce}
 use Rattle.cache_folder.specs.Steps.{CacheStep}
-use Rattle.cache_folder.specs.Images.{IfKnown}
 use Rattle.cache_folder.specs.Starts.{list_of_pairs, lengths_in, evictions, staying}
 use Rattle.disk_lru.specs.declared.refusals.DiskFault.{DiskFault}
 use Rattle.disk_lru.specs.State.{entries, list_of}
 use Rattle.disk_lru.specs.Past.{DiskState}
+use Rattle.disk_lru.specs.Trims.{HasNoOther}
 use Rattle.disk_lru.specs.Started.{one_by_one, kept_of}
 
 -- some of the pairs are left, and the steps so far are those that are to be made first
@@ -22,6 +22,7 @@ pub record IsEvicting (maximum : ℕ) (all : List (List ℕ × List ℕ)) (disk 
   pub steps : evictions maximum all ≡ done ++ evictions maximum left
   pub stays : staying maximum all ≡ staying maximum left
   pub list : list_of history.held disk.cache ≡ list_of_pairs left
+  pub files : HasNoOther history.held disk.cache
 
 -- what a start's evictions leave of the past: nothing is handed to a commit, and only a failure is a failure
 pub record SamePast (old new : DiskState) (result : Result ⊤ DiskFault) : Type 0 where

@@ -1,15 +1,17 @@
-use Rattle.std.proofs.Common.{◌≡◌, ◌≢◌, ℕ, List, length, arith}
+use Rattle.std.proofs.Common.{◌≡◌, ◌≢◌, ◌∙◌, ℕ, List, [], length, refl, ap, unwrap_or, arith}
 use Rattle.outside.specs.Files.{Folder}
 use Rattle.disk_table.specs.UseOrder.{without}
 use Rattle.cache_folder.specs.Offered.{edit_name}
-use Rattle.cache_folder.specs.Tables.{Table}
+use Rattle.cache_folder.specs.Tables.{Table, kept_by, kept}
 use Rattle.cache_folder.specs.Sound.{Fits, IsKept, SameBut, SameEntries}
 use Rattle.cache_folder.proofs.Allowed.{steps_pass, offers_pass}
 use Rattle.cache_folder.proofs.Apart.{journal-edit, value-edit, edit-edit, flip}
 use Rattle.cache_folder.proofs.Journaled.{JournalLaws}
 use Rattle.cache_folder.proofs.Lost.{lost_kept, lost_listed, lost_edit, lost_allowed}
-use Rattle.cache_folder.proofs.Mapped.{all_without, length_without, once_without}
-use Rattle.cache_folder.proofs.Calls.{fits_other, other_values, listed_without, listed_all, offered_sound}
+use Rattle.cache_folder.proofs.Lookups.{answer_committed, known_left, other_answer, answer_left, list_answers, answers_offered, length_begun, length_committed, length_dropped, length_aborted, length_used, length_written, length_others}
+use Rattle.cache_folder.proofs.Kept.{edit_none, known_kept, few_kept}
+use Rattle.cache_folder.proofs.Mapped.{all_without, length_without, once_without, once_mapped}
+use Rattle.cache_folder.proofs.Calls.{fits_other, other_values, listed_without, listed_all, offered_sound, edit_fits}
 use Rattle.cache_folder.proofs.NewJournal.{kept_same, entries_values, entries_edits}
 use Rattle.cache_folder.proofs.laws.calls_keep_others.Goals as goal
 
@@ -38,4 +40,22 @@ returns c =
       sound_offers = offered_sound laws;
       steps_allowed = steps_pass;
       offers_allowed = offers_pass;
+      list_answers = list_answers;
+      answers_offered = answers_offered;
+      answer_left = answer_left;
+      other_answer = other_answer;
+      length_begun = length_begun;
+      length_committed = length_committed;
+      length_aborted = length_aborted;
+      length_used = length_used;
+      length_written = length_written;
+      length_dropped = length_dropped;
+      length_others = length_others;
+      answer_committed = answer_committed;
+      known_kept = λ key t. known_kept t key;
+      known_left = λ key other t ne. known_left key other t ne;
+      once_kept = λ t once. once_mapped (kept_by t.table.edits t.written) t.table.entries once;
+      few_kept = λ t few. few_kept t (kept t) refl few;
+      closed_kept = λ key t none. edit_none t.table.edits t.written key t.table.entries none;
+      edit_length = λ key n f t kept open'. let there = edit_fits laws f key t n kept.files open' in ap (λ o. length (unwrap_or o [])) there.1 ∙ there.2;
     }

@@ -1,15 +1,16 @@
-use Rattle.std.proofs.Common.{ℕ, List, refl, sym, ap, subst, is_ok, ◌∙◌, IsSome, is_some}
+use Rattle.std.proofs.Common.{ℕ, List, ◌≡◌, None, refl, sym, ap, subst, is_ok, ◌∙◌, IsSome, is_some}
 use Rattle.std.specs.FinMap.{get}
-use Rattle.outside.specs.Files.{FolderHistory, Changes, deleted}
+use Rattle.outside.specs.Files.{FolderHistory, Changes, deleted, passed_through}
 use Rattle.cache_folder.specs.Offered.{journal_name}
 use Rattle.cache_folder.specs.Tables.{kept}
-use Rattle.cache_folder.proofs.Runs.{one, two, two_ok, at_middle, known_back, run_has, same_some}
-use Rattle.cache_folder.proofs.Calls.{deleted_images, remove_here, remove_gone, gone_journal, gone_says, remove_between, remove_images, remove_sound, remove_list}
+use Rattle.cache_folder.proofs.Journaled.{JournalLaws}
+use Rattle.cache_folder.proofs.Runs.{one, one_ok, two, two_ok, at_middle, known_back, run_has, same_some}
+use Rattle.cache_folder.proofs.Calls.{deleted_gone, deleted_images, remove_here, remove_gone, gone_journal, gone_says, remove_between, remove_images, remove_sound, remove_list}
 use Rattle.journal_lines.specs.declared.lines.Line.TheVariants.{Remove}
 use Rattle.cache_folder.specs.Offered.{value_name}
 use Rattle.cache_folder.specs.Journals.{line_count}
 use Rattle.cache_folder.specs.Sound.{MayLose}
-use Rattle.cache_folder.proofs.Counting.{count_later, lost_here, lost_value, lost_line}
+use Rattle.cache_folder.proofs.Counting.{count_later, lost_here, lost_value, lost_line, gone_line}
 use Rattle.cache_folder.proofs.steps.remove.Goals as goal
 
 pub returns-in_err-delete-clause-ways : goal.returns-in_err-delete-clause-ways
@@ -46,3 +47,14 @@ returns-in_err-delete-clause-left g c = λ h e k e'. run_has (MayLose c.args.key
 pub returns-clause-left : goal.returns-clause-left
 returns-clause-left g c = λ h e k e'. run_has (MayLose c.args.key.now h.held) h k _ (two _ _ _ h _ _ _ _ _ e (subst (λ (n : List ℕ). Changes (deleted n) (g.F.Files.history c.args.files.now) (g.F.Files.history c.delete.new.self) c.delete.result) c.value-value.ensures.name c.delete.ensures.files) (ap is_ok c.in_ok-delete.was) c.add_line.ensures.files
     (lost_here (record { text = c.text_is_its_lines.ensures.text; unbroken = c.text_is_its_lines.ensures.unbroken }) c.args.key.now h.held) (deleted_images (record { text = c.text_is_its_lines.ensures.text; unbroken = c.text_is_its_lines.ensures.unbroken }) (MayLose c.args.key.now h.held) h.held (value_name c.args.key.now) (lost_value (record { text = c.text_is_its_lines.ensures.text; unbroken = c.text_is_its_lines.ensures.unbroken }) c.args.key.now h.held)) (lost_value (record { text = c.text_is_its_lines.ensures.text; unbroken = c.text_is_its_lines.ensures.unbroken }) c.args.key.now h.held) (lost_line (record { text = c.text_is_its_lines.ensures.text; unbroken = c.text_is_its_lines.ensures.unbroken }) c.args.key.now _ h.held _ (lost_value (record { text = c.text_is_its_lines.ensures.text; unbroken = c.text_is_its_lines.ensures.unbroken }) c.args.key.now h.held))) e'
+
+pub returns-clause-gone : goal.returns-clause-gone
+returns-clause-gone g c = λ ok k e'.
+    let laws : JournalLaws = record { text = c.text_is_its_lines.ensures.text; unbroken = c.text_is_its_lines.ensures.unbroken } in
+    let mid = known_back _ _ _ _ c.add_line.ensures.files k e' in
+    let was = known_back _ _ _ _ c.delete.ensures.files mid.0 mid.1 in
+    let h : FolderHistory = was.0 in
+    let m : FolderHistory = passed_through (deleted (value_name c.args.key.now) h.held) h in
+    let there = one_ok (deleted (value_name c.args.key.now)) h _ _ _ was.1 (subst (λ (n : List ℕ). Changes (deleted n) (g.F.Files.history c.args.files.now) (g.F.Files.history c.delete.new.self) c.delete.result) c.value-value.ensures.name c.delete.ensures.files) (ap is_ok c.in_ok-delete.was) in
+    run_has (λ d. get d (value_name c.args.key.now) ≡ None) m k _
+    (one (λ d. get d (value_name c.args.key.now) ≡ None) _ m _ _ _ there c.add_line.ensures.files (deleted_gone laws h.held (value_name c.args.key.now)) (gone_line laws c.args.key.now _ m.held (deleted_gone laws h.held (value_name c.args.key.now)))) e'

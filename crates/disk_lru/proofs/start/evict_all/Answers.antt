@@ -1,4 +1,4 @@
-use Rattle.std.proofs.Common.{rules, ◌≡◌, ◌<◌, true, false, Some, None, Ok, length, sym, ap, subst, ◌∙◌, arith}
+use Rattle.std.proofs.Common.{rules, ◌≡◌, ◌<◌, true, false, Ok, length, sym, ap, subst, ◌∙◌, arith}
 use Rattle.std.specs.Prelude.{IfSome}
 use Rattle.disk_table.specs.Table.{eldest_over}
 use Rattle.cache_folder.specs.Offered.{offered}
@@ -30,6 +30,7 @@ over-preserved g c =
       handed = ap (λ (p : PastValue). p.handed) trims.past ∙ handed_same c.over.disk.cache.history found.0 c.over.disk.past.handed ∙ c.over.invariant.handed;
       failed = ap (λ (p : PastValue). p.failed) trims.past ∙ not_failed c.over.disk.past.failed ∙ c.over.invariant.failed;
       maximum = c.in_ok-trim_one.ensures.maximum ∙ c.over.invariant.maximum;
+      edits = trims.edits_are ∙ c.over.invariant.edits;
       later = omega (arith, c.in_ok-trim_one.ensures.cause.later, c.over.invariant.later);
     }
 

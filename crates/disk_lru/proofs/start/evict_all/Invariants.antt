@@ -1,7 +1,7 @@
 use Rattle.std.proofs.Common.{◌≡◌, ◌≤◌, length}
 use Rattle.cache_folder.specs.Offered.{offered}
 use Rattle.cache_folder.specs.Images.{IfKnown}
-use Rattle.disk_lru.specs.State.{entries}
+use Rattle.disk_lru.specs.State.{entries, edits}
 use Rattle.disk_lru.specs.inside.Evicting.{IsEvicting}
 use Rattle.disk_lru.proofs.start.evict_all.Given as goal
 
@@ -12,6 +12,7 @@ invariant-over g l = record {
   handed : l.disk.past.handed ≡ l.fn.disk.past.handed;
   failed : l.disk.past.failed ≡ l.fn.disk.past.failed;
   maximum : l.disk.cache.maximum ≡ l.fn.disk.cache.maximum;
+  edits : edits l.disk.cache ≡ edits l.fn.disk.cache;
   later : l.fn.disk.cache.faults ≤ l.disk.cache.faults;
 }
 

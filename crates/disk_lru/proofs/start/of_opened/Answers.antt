@@ -1,13 +1,12 @@
-use Rattle.std.proofs.Common.{◌≡◌, refl, sym, ap, subst, ◌∙◌, ◌∷◌, []}
-use Rattle.std.proofs.Common.{Some}
+use Rattle.std.proofs.Common.{◌≡◌, sym, ap, subst, ◌∙◌}
 use Rattle.outside.specs.Files.{FolderHistory, passed_through}
 use Rattle.cache_folder.specs.Offered.{offered}
 use Rattle.cache_folder.specs.Images.{Runs}
 use Rattle.cache_folder.specs.Starts.{list_of_pairs}
-use Rattle.disk_lru.specs.State.{CacheState, list_of}
+use Rattle.disk_lru.specs.State.{CacheState, list_of, AnswersFor}
 use Rattle.disk_lru.specs.Past.{PastValue}
 use Rattle.disk_lru.proofs.Runs.{run_has}
-use Rattle.disk_lru.proofs.Evictions.{evicting_first}
+use Rattle.disk_lru.proofs.Evictions.{evicting_first, answers_opened}
 use Rattle.disk_lru.proofs.start.of_opened.Goals as goal
 
 pub of_parts-cache-requires : goal.of_parts-cache-requires
@@ -28,6 +27,10 @@ of_start-requires-clause-list g c = λ h e k e'.
     let was = sym (ap (λ (s : CacheState). s.history) c.of_parts-cache.ensures) ∙ e' in
     ap (λ (s : CacheState). list_of k.held s) c.of_parts-cache.ensures ∙ (c.requires.opened k was).list
     ∙ ap list_of_pairs (run_has _ h k _ (c.requires.moments h e) was)
+
+pub of_start-requires-clause-answers : goal.of_start-requires-clause-answers
+of_start-requires-clause-answers g c = λ k e key. subst (λ (s : CacheState). AnswersFor key k.held s) (sym c.of_parts-cache.ensures)
+    (answers_opened k.held c.args.table c.requires.free (c.requires.opened k (sym (ap (λ (s : CacheState). s.history) c.of_parts-cache.ensures) ∙ e)) key)
 
 pub returns-clause-evicting : goal.returns-clause-evicting
 returns-clause-evicting g c = λ h e.

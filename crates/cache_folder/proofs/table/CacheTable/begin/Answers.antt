@@ -5,7 +5,7 @@ use Rattle.disk_table.specs.Table.{TableValue, edit_of}
 use Rattle.disk_table.specs.declared.table.EditRefused.{EditRefused}
 use Rattle.disk_table.specs.declared.table.EditRefused.TheVariants.{Busy}
 use Rattle.cache_folder.specs.Tables.{CacheTableValue, kept, begun}
-use Rattle.cache_folder.proofs.Edits.{opened_own, opened_other}
+use Rattle.cache_folder.proofs.Edits.{opened_own, opened_other, closed_again}
 use Rattle.cache_folder.proofs.Kept.{few_kept, begun_kept}
 use Rattle.cache_folder.proofs.table.CacheTable.begin.Goals as goal
 
@@ -39,3 +39,7 @@ returns-clause-few c = few_kept (record { table = c.open_edit.new.self; written 
 
 pub returns-clause-others : goal.returns-clause-others
 returns-clause-others c = λ k ne. ap (λ (t : TableValue). edit_of k t.edits) c.in_ok-number.ensures.table ∙ opened_other c.args.key.now k c.self.inside.table.edits c.in_ok-number.number ne c.in_ok-number.ensures.number ∙ ap (λ (t : CacheTableValue). edit_of k t.table.edits) c.self.view_is
+
+pub returns-clause-back : goal.returns-clause-back
+returns-clause-back c = ap (λ (t : TableValue). set t.edits c.in_ok-number.number None) c.in_ok-number.ensures.table
+    ∙ closed_again c.args.key.now c.self.inside.table.edits c.in_ok-number.number c.in_ok-number.ensures.number ∙ ap (λ (t : CacheTableValue). t.table.edits) c.self.view_is

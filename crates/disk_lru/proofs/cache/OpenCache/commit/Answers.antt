@@ -4,6 +4,7 @@ use Rattle.cache_folder.specs.Steps.{Commit}
 use Rattle.cache_folder.specs.Tables.{edit_at, committed}
 use Rattle.disk_lru.specs.Calls.{commit_steps}
 use Rattle.disk_lru.proofs.Composed.{makes_by, fails_after}
+use Rattle.disk_lru.proofs.Stays.{entry_stored}
 use Rattle.disk_lru.proofs.Fields.{closes_after, closes_before}
 use Rattle.disk_lru.proofs.cache.OpenCache.commit.Goals as goal
 
@@ -33,3 +34,6 @@ returns-in_err-commit_now-clause-edit g c = closes_after c.args.key.now c.args.s
 
 pub returns-clause-edit : goal.returns-clause-edit
 returns-clause-edit g c = closes_before c.args.key.now c.args.self.now c.commit_now.new.self c.settle.new.self (closes_after c.args.key.now c.args.self.now c.ready.new.self c.commit_now.new.self (c.ready.ensures.ok (ap is_ok c.in_ok-ready.was)).0 c.commit_now.ensures.edit) c.settle.ensures.rebuilds
+
+pub returns-clause-stored : goal.returns-clause-stored
+returns-clause-stored g c = λ ok h e k e'. entry_stored c.calls_keep_others.ensures c.args.key.now c.args.self.now c.settle.new.self (returns-clause-makes g c ok) h e k e'

@@ -1,4 +1,4 @@
-use Rattle.std.proofs.Common.{false, refl, sym, ap, subst, is_ok}
+use Rattle.std.proofs.Common.{false, refl, sym, ap, subst, is_ok, inl, inr}
 use Rattle.disk_table.specs.Table.{TableValue}
 use Rattle.cache_folder.specs.Tables.{kept}
 use Rattle.cache_folder.specs.Sound.{IsSound}
@@ -13,7 +13,7 @@ pub invariant_of-self : goal.invariant_of-self
 invariant_of-self g c = keeps_unbuilt c.calls_keep_others.ensures (g.F.Files.history c.self.inside.files) (g.F.Files.history c.rebuild.new.files) c.self.inside.table c.rebuild.ensures.known c.self.invariant.files c.rebuild.ensures.ways
 
 pub returns-in_err-rebuild-clause-rebuilds : goal.returns-in_err-rebuild-clause-rebuilds
-returns-in_err-rebuild-clause-rebuilds g c = rebuilds_by _ _ _ c.self.view_is refl refl refl refl c.rebuild.ensures.known c.rebuild.ensures.ways c.rebuild.ensures.cause.later
+returns-in_err-rebuild-clause-rebuilds g c = rebuilds_by _ _ _ c.self.view_is refl refl refl refl c.rebuild.ensures.known c.rebuild.ensures.ways (λ k e. inl refl) c.rebuild.ensures.cause.later
 
 pub invariant_of-self-2 : goal.invariant_of-self-2
 invariant_of-self-2 g c = keeps_sound (g.F.Files.history c.self.inside.files) (g.F.Files.history c.rebuild.new.files) (kept c.self.inside.table) c.rebuilt.new.self false c.rebuild.ensures.known
@@ -21,7 +21,7 @@ invariant_of-self-2 g c = keeps_sound (g.F.Files.history c.self.inside.files) (g
     (λ h e k e'. counted_new k.held c.self.inside.table c.rebuilt.new.self (c.rebuild.ensures.lines (ap is_ok c.in_ok-rebuild.was) k e') c.rebuilt.ensures.table (c.self.invariant.files h e).count)
 
 pub returns-clause-rebuilds : goal.returns-clause-rebuilds
-returns-clause-rebuilds g c = rebuilds_by _ _ _ c.self.view_is c.rebuilt.ensures.kept (ap (λ (t : TableValue). t.edits) c.rebuilt.ensures.table) (ap (λ (t : TableValue). t.entries) c.rebuilt.ensures.table) refl c.rebuild.ensures.known c.rebuild.ensures.ways c.rebuild.ensures.cause.later
+returns-clause-rebuilds g c = rebuilds_by _ _ _ c.self.view_is c.rebuilt.ensures.kept (ap (λ (t : TableValue). t.edits) c.rebuilt.ensures.table) (ap (λ (t : TableValue). t.entries) c.rebuilt.ensures.table) refl c.rebuild.ensures.known c.rebuild.ensures.ways (λ k e. inr (c.rebuild.ensures.alone (ap is_ok c.in_ok-rebuild.was) k e)) c.rebuild.ensures.cause.later
 
 pub returns-clause-settled : goal.returns-clause-settled
 returns-clause-settled g c = λ ok. settled_new _ c.self.inside.table (λ k e. c.rebuild.ensures.lines (ap is_ok c.in_ok-rebuild.was) k e) c.rebuilt.ensures.kept c.rebuilt.ensures.table

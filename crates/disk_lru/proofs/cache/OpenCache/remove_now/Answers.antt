@@ -20,13 +20,13 @@ invariant_of-self-in-Err g c = keeps_failed c.calls_keep_others.ensures c.args.k
     (λ h e k e'. (run_has _ h k (g.F.Files.history c.remove.new.files) (c.remove.ensures.ways h e) e').1) c.forget-in-Err.ensures.kept
 
 pub returns-in-Ok-clause-took : goal.returns-in-Ok-clause-took
-returns-in-Ok-clause-took g c = λ ok. took_by c.calls_keep_others.ensures _ _ _ c.args.key.now (drop_steps c.args.key.now) c.self.view_is c.remove.ensures.known c.remove.ensures.ways _ c.forget.ensures.kept (c.remove.ensures.ok (ap is_ok c.in-Ok.is))
+returns-in-Ok-clause-took g c = λ ok. took_by c.calls_keep_others.ensures _ _ _ c.args.key.now (drop_steps c.args.key.now) c.self.view_is c.remove.ensures.known c.remove.ensures.ways _ c.forget.ensures.kept (λ h e any same. c.calls_keep_others.ensures.length_dropped any c.args.key.now _ _ same) (c.remove.ensures.ok (ap is_ok c.in-Ok.is))
 
 pub returns-in-Err-clause-fails : goal.returns-in-Err-clause-fails
-returns-in-Err-clause-fails g c = λ failed. fails_by c.calls_keep_others.ensures _ _ _ c.args.key.now (drop_steps c.args.key.now) c.self.view_is c.remove.ensures.known c.remove.ensures.ways c.forget-in-Err.ensures.kept c.forget-in-Err.ensures.closed c.forget-in-Err.ensures.others refl
+returns-in-Err-clause-fails g c = λ failed. fails_by c.calls_keep_others.ensures _ _ _ c.args.key.now (drop_steps c.args.key.now) c.self.view_is c.remove.ensures.known c.remove.ensures.ways c.forget-in-Err.ensures.kept c.forget-in-Err.ensures.edits c.forget-in-Err.ensures.closed c.forget-in-Err.ensures.others refl
 
 pub returns-in-Ok-clause-edit : goal.returns-in-Ok-clause-edit
-returns-in-Ok-clause-edit g c = closes_by _ _ _ c.args.key.now c.self.view_is c.forget.ensures.closed c.forget.ensures.others
+returns-in-Ok-clause-edit g c = closes_by _ _ _ c.args.key.now c.self.view_is c.forget.ensures.edits c.forget.ensures.closed c.forget.ensures.others
 
 pub returns-in-Err-clause-edit : goal.returns-in-Err-clause-edit
-returns-in-Err-clause-edit g c = closes_by _ _ _ c.args.key.now c.self.view_is c.forget-in-Err.ensures.closed c.forget-in-Err.ensures.others
+returns-in-Err-clause-edit g c = closes_by _ _ _ c.args.key.now c.self.view_is c.forget-in-Err.ensures.edits c.forget-in-Err.ensures.closed c.forget-in-Err.ensures.others

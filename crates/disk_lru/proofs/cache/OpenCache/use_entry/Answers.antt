@@ -2,7 +2,6 @@ use Rattle.std.proofs.Common.{refl, ap, ◌∙◌, is_ok, is_err}
 use Rattle.disk_table.specs.UseOrder.{used, is_known}
 use Rattle.disk_lru.specs.Calls.{use_steps}
 use Rattle.disk_lru.proofs.Composed.{makes_by, fails_after}
-use Rattle.disk_lru.proofs.Fields.{closes_after, closes_before}
 use Rattle.disk_lru.proofs.cache.OpenCache.use_entry.Goals as goal
 
 pub touch_now-requires-clause-ready : goal.touch_now-requires-clause-ready

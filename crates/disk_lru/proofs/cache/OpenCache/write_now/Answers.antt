@@ -20,7 +20,7 @@ invariant_of-self-in-Err g c = keeps_failed c.calls_keep_others.ensures c.args.k
     (λ h e k e'. (run_has _ h k (g.F.Files.history c.write.new.files) (c.write.ensures.ways h e) e').1) c.forget.ensures.kept
 
 pub returns-in-Ok-clause-took : goal.returns-in-Ok-clause-took
-returns-in-Ok-clause-took g c = λ ok. took_by c.calls_keep_others.ensures _ _ _ c.args.key.now no_steps c.self.view_is c.write.ensures.known c.write.ensures.ways _ c.grow.ensures.kept (c.write.ensures.ok (ap is_ok c.in-Ok.is))
+returns-in-Ok-clause-took g c = λ ok. took_by c.calls_keep_others.ensures _ _ _ c.args.key.now no_steps c.self.view_is c.write.ensures.known c.write.ensures.ways _ c.grow.ensures.kept (λ h e any same. c.calls_keep_others.ensures.length_written any c.args.key.now _ _ _ same) (c.write.ensures.ok (ap is_ok c.in-Ok.is))
 
 pub returns-in-Err-clause-fails : goal.returns-in-Err-clause-fails
-returns-in-Err-clause-fails g c = λ failed. fails_by c.calls_keep_others.ensures _ _ _ c.args.key.now no_steps c.self.view_is c.write.ensures.known c.write.ensures.ways c.forget.ensures.kept c.forget.ensures.closed c.forget.ensures.others refl
+returns-in-Err-clause-fails g c = λ failed. fails_by c.calls_keep_others.ensures _ _ _ c.args.key.now no_steps c.self.view_is c.write.ensures.known c.write.ensures.ways c.forget.ensures.kept c.forget.ensures.edits c.forget.ensures.closed c.forget.ensures.others refl

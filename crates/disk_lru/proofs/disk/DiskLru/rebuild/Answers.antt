@@ -1,5 +1,5 @@
 use Rattle.std.proofs.Common.{[], sym, ap, subst, ◌∙◌, is_ok}
-use Rattle.disk_lru.specs.Calls.{no_steps, CallOn, Makes}
+use Rattle.disk_lru.specs.Calls.{no_steps, CallOn, StillAnswers, Makes}
 use Rattle.disk_lru.specs.Past.{DiskState}
 use Rattle.disk_lru.proofs.Results.{ok_of}
 use Rattle.disk_lru.proofs.Promises.{promise_after}
@@ -21,3 +21,9 @@ returns-clause-call g c = λ key. subst (λ (s : DiskState). CallOn key no_steps
 
 pub returns-clause-makes : goal.returns-clause-makes
 returns-clause-makes g c = λ ok key. subst (λ (s : DiskState). Makes key no_steps s.cache c.rebuild-result.new.self) c.self.view_is (c.rebuild-result.ensures.makes (ap is_ok c.in_ok-result.was) key)
+
+pub returns-in_err-result-clause-answers : goal.returns-in_err-result-clause-answers
+returns-in_err-result-clause-answers g c = λ any. subst (λ (s : DiskState). StillAnswers any s.cache c.rebuild-result.new.self) c.self.view_is (c.rebuild-result.ensures.answers any)
+
+pub returns-clause-answers : goal.returns-clause-answers
+returns-clause-answers g c = λ any. subst (λ (s : DiskState). StillAnswers any s.cache c.rebuild-result.new.self) c.self.view_is (c.rebuild-result.ensures.answers any)
