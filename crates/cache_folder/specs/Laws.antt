@@ -38,15 +38,15 @@ pub record CacheLaws : Type 0 where
   pub answers_offered : (key : List ℕ) (f : Folder) (t : Table) → SameLength key t (listed f t)
       → is_offered key t ≡ is_some (answer_at key (listed f t))
   -- steps that leave it, and a drop of another key
-  pub answer_left : (key : List ℕ) (es : Cached (List ℕ)) (steps : List (CacheStep (List ℕ))) → AllByRecursion (Leaves key) steps
-      → answer_at key (all_stepped es steps) ≡ answer_at key es
+  pub answer_left : (key : List ℕ) (es : Cached (List ℕ)) (steps : List (CacheStep (List ℕ)))
+      → AllByRecursion (Leaves key) steps → answer_at key (all_stepped es steps) ≡ answer_at key es
   pub other_answer : (key other : List ℕ) (es : Cached (List ℕ)) → other ≢ key
       → answer_at other (without key es) ≡ answer_at other es
   -- a table and a list that have one length for a key have it after a call
   pub length_begun : (any key : List ℕ) (t : Table) (es : Cached (List ℕ)) → SameLength any t es
       → SameLength any (begun key t) (stepped es (Doubt key))
-  pub length_committed : (any key values : List ℕ) (n : ℕ) (t : Table) (es : Cached (List ℕ)) → length values ≡ n
-      → SameLength any t es → SameLength any (committed key n t) (stepped es (Commit key values))
+  pub length_committed : (any key values : List ℕ) (n : ℕ) (t : Table) (es : Cached (List ℕ))
+      → length values ≡ n → SameLength any t es → SameLength any (committed key n t) (stepped es (Commit key values))
   pub length_aborted : (any key : List ℕ) (t : Table) (es : Cached (List ℕ)) → SameLength any t es
       → SameLength any (aborted (len_at key t) key t) (stepped es (abort_step (len_at key t) key))
   pub length_used : (any key : List ℕ) (t : Table) (es : Cached (List ℕ)) → SameLength any t es
@@ -55,17 +55,20 @@ pub record CacheLaws : Type 0 where
       → SameLength any (grown_edit key n t) es
   pub length_dropped : (any key : List ℕ) (t : Table) (es : Cached (List ℕ)) → SameLength any t es
       → SameLength any (without key t) (stepped es (Drop key))
-  pub length_others : (key other : List ℕ) (t : Table) (es gs : Cached (List ℕ)) → other ≢ key → without key gs ≡ without key es
-      → SameLength other t es → SameLength other t gs
+  pub length_others : (key other : List ℕ) (t : Table) (es gs : Cached (List ℕ)) → other ≢ key
+      → without key gs ≡ without key es → SameLength other t es → SameLength other t gs
   -- the file of an edit has the length that the table says
   pub edit_length : (key : List ℕ) (n : ℕ) (f : Folder) (t : Table) → IsKept f t → edit_at key t ≡ Some n
       → length (text_at f (edit_name key)) ≡ n
   -- a commit's values are what the list answers
-  pub answer_committed : (key values : List ℕ) (es : Cached (List ℕ)) → answer_at key (stepped es (Commit key values)) ≡ Some values
+  pub answer_committed : (key values : List ℕ) (es : Cached (List ℕ))
+      → answer_at key (stepped es (Commit key values)) ≡ Some values
   -- which keys a table knows
   pub known_kept : (key : List ℕ) (t : CacheTableValue) → is_known key (kept t) ≡ is_known key t.table.entries
-  pub known_left : (key other : List ℕ) (t : Table) → other ≢ key → is_known other (without key t) ≡ is_known other t
+  pub known_left : (key other : List ℕ) (t : Table) → other ≢ key
+      → is_known other (without key t) ≡ is_known other t
   pub once_kept : (t : CacheTableValue) → IsOnce t.table.entries → IsOnce (kept t)
   pub few_kept : (t : CacheTableValue) → length t.table.entries ≤ 16400 → length (kept t) ≤ 16400
   -- a key that no open edit is of
-  pub closed_kept : (key : List ℕ) (t : CacheTableValue) → edit_of key t.table.edits ≡ None → edit_at key (kept t) ≡ None
+  pub closed_kept : (key : List ℕ) (t : CacheTableValue) → edit_of key t.table.edits ≡ None
+      → edit_at key (kept t) ≡ None

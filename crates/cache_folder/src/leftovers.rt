@@ -76,7 +76,8 @@ fn add_stale<F: Files>(
     stale: &mut Vec<Key>,
 ) -> Result<(), FileFault>
     ensures keys { IsOk result → IfKnown (F.history files.old) (λ h. stale.new.items ≡ stale.old.items
-        ++ (if has_value h.held key.now (clean_length key.now table.now.table.entries) then [] else key.now ∷ [])) }
+        ++ (if has_value h.held key.now (clean_length key.now table.now.table.entries) then []
+        else key.now ∷ [])) }
     ensures same { F.history files.new ≡ F.history files.old }
     ensures cause { HasCause (F.faults files.old) (F.faults files.new) (result ≡ Err FileFault.Failed) }
 {

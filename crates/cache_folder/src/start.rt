@@ -32,7 +32,8 @@ fn without_journal<F: Files>(alloc: Global, files: &mut F) -> Result<CacheTable,
     requires alone { IfKnown (F.history files.old) (λ h. get h.held journal_bkp ≡ None) }
     requires bad { IfKnown (F.history files.old) (λ h. offered h.held ≡ []) }
     ensures moments { IfKnown (F.history files.old) (λ h. Runs (OffersSame h.held) h (F.history files.new)) }
-    ensures read { IfOk result (λ table. IfKnown (F.history files.new) (λ k. IsRead k.held table.table false)) }
+    ensures read { IfOk result (λ table. IfKnown (F.history files.new)
+        (λ k. IsRead k.held table.table false)) }
     ensures free { IfOk result (λ table. HasNoEdits table) }
     ensures known { WasKnown (F.history files.old) (F.history files.new) }
     ensures cause { HasCause (F.faults files.old) (F.faults files.new) (result ≡ Err FileFault.Failed) }
@@ -88,7 +89,8 @@ fn tidy<F: Files>(
     requires read { IfKnown (F.history files.old) (λ h. IsRead h.held table.old.table whole) }
     requires free { HasNoEdits table.old }
     ensures moments { IfKnown (F.history files.old) (λ h. Runs (OffersSame h.held) h (F.history files.new)) }
-    ensures swept { IfOk result (λ sound. IfKnown (F.history files.new) (λ k. IsSwept k.held table.new.table sound)) }
+    ensures swept { IfOk result (λ sound. IfKnown (F.history files.new)
+        (λ k. IsSwept k.held table.new.table sound)) }
     ensures free { HasNoEdits table.new }
     ensures known { WasKnown (F.history files.old) (F.history files.new) }
     ensures cause { HasCause (F.faults files.old) (F.faults files.new) (result ≡ Err FileFault.Failed) }

@@ -55,16 +55,18 @@ pub record Passage (meant : Steps) (old new : CacheState) : Type 0 where
   pub known : WasKnown old.history new.history
   -- each moment offers what was offered before, or the list before the steps that were meant, or after them
   pub moments : IfKnown old.history (λ h.
-      Runs (OffersOneOf h.held (list_of h.held old) (all_stepped (list_of h.held old) (meant h.held))) h new.history)
+      Runs (OffersOneOf h.held (list_of h.held old) (all_stepped (list_of h.held old) (meant h.held)))
+      h new.history)
   -- each moment offers only what was offered or kept before, or what the steps bring in
-  pub allows : IfKnown old.history (λ h. (allowed : List ℕ × List ℕ → Bool) → IsWithin allowed h.held (entries old)
-      → Pass allowed (handed_by (meant h.held)) → StaysWithin allowed h new)
+  pub allows : IfKnown old.history (λ h. (allowed : List ℕ × List ℕ → Bool)
+      → IsWithin allowed h.held (entries old) → Pass allowed (handed_by (meant h.held)) → StaysWithin allowed h new)
 
 -- A call on a key: it was to make the steps `meant`, and it made the steps `made`, which differ where it failed.
 pub record CallOn (key : List ℕ) (meant made : Steps) (old new : CacheState) : Type 0 where
   pub passage : Passage meant old new
   -- the list made the steps
-  pub list : IfKnown old.history (λ h. IfKnown new.history (λ k. list_of k.held new ≡ all_stepped (list_of h.held old) (made h.held)))
+  pub list : IfKnown old.history (λ h. IfKnown new.history (λ k.
+      list_of k.held new ≡ all_stepped (list_of h.held old) (made h.held)))
   -- the files of all other keys' edits are as they were
   pub others : IfKnown old.history (λ h. IfKnown new.history (λ k.
       (other : List ℕ) → other ≢ key → get k.held (edit_name other) ≡ get h.held (edit_name other)))

@@ -28,7 +28,8 @@ pub record IsStarted (maximum : ℕ) (before : FolderHistory) (disk : DiskState)
   -- each eviction was a call
   pub calls : disk.past.calls ≡ [] ∷ one_by_one (evictions maximum (offered before.held))
   -- the list is what was offered, with the eldest dropped while there was too much
-  pub list : IfKnown disk.cache.history (λ k. list_of k.held disk.cache ≡ list_of_pairs (staying maximum (offered before.held)))
+  pub list : IfKnown disk.cache.history (λ k.
+      list_of k.held disk.cache ≡ list_of_pairs (staying maximum (offered before.held)))
   -- and no key is under edit
   pub keeps : entries disk.cache ≡ kept_of (staying maximum (offered before.held))
   -- no other file is held

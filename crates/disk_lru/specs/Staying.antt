@@ -21,12 +21,14 @@ pub record HasEntry (pair : List ℕ × List ℕ) (folder : Folder) (cache : Cac
 -- an entry that the cache has is offered at each moment of a call, and the cache has it afterwards
 abbrev pub EntryStays : List ℕ × List ℕ → CacheState → CacheState → Type 0
 EntryStays pair old new = IfKnown old.history (λ h. HasEntry pair h.held old
-    → Runs (λ c. is_among (offered c) pair ≡ true) h new.history × IfKnown new.history (λ k. HasEntry pair k.held new))
+    → Runs (λ c. is_among (offered c) pair ≡ true) h new.history
+    × IfKnown new.history (λ k. HasEntry pair k.held new))
 
 pub record EntriesStay : Type 0 where
   -- through a call on another key, and through one that uses its own or makes no step, whatever failed
   pub call : (key : List ℕ) (meant made : Steps) (old new : CacheState) (pair : List ℕ × List ℕ)
-      → CallOn key meant made old new → LeaveAnswer pair.0 meant → LeaveAnswer pair.0 made → EntryStays pair old new
+      → CallOn key meant made old new → LeaveAnswer pair.0 meant → LeaveAnswer pair.0 made
+      → EntryStays pair old new
   -- through an eviction of another key that failed
   pub eviction : (key : List ℕ) (old new : CacheState) (pair : List ℕ × List ℕ)
       → Stays key old new → pair.0 ≢ key → EntryStays pair old new

@@ -26,7 +26,8 @@ pub record HasNoOther (folder : Folder) (cache : CacheState) : Type 0 where
 
 -- where no other file was held, none is
 pub record AddsNoOther (old new : CacheState) : Type 0 where
-  pub none : IfKnown old.history (λ h. IfKnown new.history (λ k. HasNoOther h.held old → HasNoOther k.held new))
+  pub none : IfKnown old.history (λ h. IfKnown new.history (λ k.
+      HasNoOther h.held old → HasNoOther k.held new))
 
 -- ---- an eviction
 

@@ -135,7 +135,8 @@ impl<F: Files> DiskLru<F> {
     pub fn get(&mut self, alloc: Global, key: &Key) -> Result<Option<Vec<u8>>, DiskFault>
         ensures bytes { IfKnown self.old.cache.history
             (λ h. IfOk result (λ found. option_map (λ v. v.items) found
-            ≡ (if is_offered key.now (entries self.old.cache) then get h.held (value_name key.now) else None))) }
+            ≡ (if is_offered key.now (entries self.old.cache) then get h.held (value_name key.now)
+            else None))) }
         ensures list { IfKnown self.old.cache.history (λ h. IfOk result (λ found.
             option_map (λ v. v.items) found ≡ answer_at key.now (list_of h.held self.old.cache))) }
         ensures calls { self.old.past.failed ≡ false → IfKnown self.old.past.entry (λ h. IfOk result (λ found.
@@ -326,7 +327,8 @@ impl<F: Files> DiskLru<F> {
         ensures fails { IsErr result
             → Fails edit.key (abort_steps edit.key self.old.cache) self.old.cache self.new.cache }
         ensures past { edit.closed ≡ false → self.new.past
-            ≡ after_call (steps_at self.old.cache.history (abort_steps edit.key self.old.cache)) (is_err result) self.old.past }
+            ≡ after_call (steps_at self.old.cache.history (abort_steps edit.key self.old.cache))
+            (is_err result) self.old.past }
         ensures maximum { self.new.cache.maximum ≡ self.old.cache.maximum }
         ensures cause { HasCause self.old.cache.faults self.new.cache.faults
             (result ≡ Err DiskFault.Failed) }

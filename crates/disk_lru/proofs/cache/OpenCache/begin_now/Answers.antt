@@ -35,7 +35,7 @@ returns-in-Ok-clause-fails g c = λ failed. fails_by c.calls_keep_others.ensures
     (subst (λ (t : CacheTableValue). Ways c.args.key.now (kept t) (λ f. Doubt c.args.key.now) (g.F.Files.history c.self.inside.files) (g.F.Files.history c.begin-in-Ok.new.files)) c.of-before.ensures c.begin-in-Ok.ensures.ways)
     (c.forget.ensures.kept ∙ ap (without c.args.key.now) c.in-Ok.ensures.kept ∙ without_newest c.args.key.now _ (kept c.self.inside.table))
     (c.forget.ensures.edits ∙ ap (λ o. closed_at o c.begin.new.self.table.edits) c.in-Ok.ensures.open ∙ c.in-Ok.ensures.back
-        ∙ sym (ap (λ o. closed_at o c.self.inside.table.table.edits) (ap (λ (s : CacheState). edit_of c.args.key.now (edits s)) c.self.view_is ∙ c.requires.closed)))
+    ∙ sym (ap (λ o. closed_at o c.self.inside.table.table.edits) (ap (λ (s : CacheState). edit_of c.args.key.now (edits s)) c.self.view_is ∙ c.requires.closed)))
     c.forget.ensures.closed (λ other ne. c.forget.ensures.others other ne ∙ c.in-Ok.ensures.others other ne) refl
 
 pub returns-clause-fails : goal.returns-clause-fails

@@ -33,8 +33,10 @@ returns-clause-edits g c = λ none. c.settle.ensures.rebuilds.edits_are ∙ (c.t
     ∙ ap (λ o. closed_at o (edits c.rebuild_due.new.self)) (ap (edit_of c.args.key.now) c.rebuild_due.ensures.rebuilds.edits_are ∙ none) ∙ c.rebuild_due.ensures.rebuilds.edits_are
 
 pub returns-clause-files : goal.returns-clause-files
-returns-clause-files g c = λ ok. record { none = λ h e k e' none.
-    let made = c.trim_now.ensures.took (ap is_ok c.in_ok-trim_now.was) in
-    let b = c.settle.ensures.rebuilds.known k e' in
-    let a = made.call.passage.known b.0 b.1 in
-    c.settle.ensures.rebuilds.files.none b.0 b.1 k e' ((c.trim_now.ensures.files (ap is_ok c.in_ok-trim_now.was)).none a.0 a.1 b.0 b.1 (c.rebuild_due.ensures.rebuilds.files.none h e a.0 a.1 none)) }
+returns-clause-files g c = λ ok. record {
+  none = λ h e k e' none.
+      let made = c.trim_now.ensures.took (ap is_ok c.in_ok-trim_now.was) in
+      let b = c.settle.ensures.rebuilds.known k e' in
+      let a = made.call.passage.known b.0 b.1 in
+      c.settle.ensures.rebuilds.files.none b.0 b.1 k e' ((c.trim_now.ensures.files (ap is_ok c.in_ok-trim_now.was)).none a.0 a.1 b.0 b.1 (c.rebuild_due.ensures.rebuilds.files.none h e a.0 a.1 none));
+}
