@@ -1,0 +1,14 @@
+pub use Rattle.request_tracker.specs.Moves
+pub use Rattle.script_walk.specs.Walk
+pub use Rattle.script_walk.specs.Tracked
+pub use Rattle.script_walk.specs.Laws
+pub use Rattle.engine_shared.specs.Caller
+pub use Rattle.fetch_bounds.specs.Follows
+pub mod Held
+pub mod Owner
+pub mod Following
+pub mod JobRuns
+pub mod Gathers
+pub mod Closing
+pub mod Quiet
+pub mod inside
