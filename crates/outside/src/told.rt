@@ -74,6 +74,15 @@ impl Told {
         }
     }
 
+    /// The content that this source tells, or nothing.
+    pub fn by<S: Source>(source: &S) -> Told
+        ensures { result ≡ S.content source.now }
+    {
+        let mut content = Snapshot::of(&Unsaid {});
+        update_snapshot::<_, _, Tells>(&mut content, source);
+        Told { content }
+    }
+
     /// The content that all of the sources tell.
     ///
     /// Nothing is told where the slice is empty, where one of them tells nothing, or where two tell different contents. The
