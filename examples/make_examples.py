@@ -1,5 +1,5 @@
 #!/usr/bin/env python3
-"""Writes the pictures in images/ and the expected output and status of the scripts, NAME.out.
+"""Writes the pictures in images/, the longest script, and the expected output and status of the scripts, NAME.out.
 
 Each picture is a formula: from a place (x, y), counted from the top left, to red, green and blue.
 Its text is `P6`, the size, the maximum 255 and three bytes a pixel, from the top row; or a Windows
@@ -143,6 +143,53 @@ def shown_resized(view, name, wanted_width, wanted_height, transform, config):
     return f"{view} shown {len(rows[0])} {len(rows)} {config} {digest}"
 
 
+# ---- a list of forty tiles, scrolled over a screen of six rows: down to its end and back to its beginning
+
+ROWS, TILES = 6, 40
+
+for number in range(1, TILES + 1):
+    PICTURES[f"tile{number:02}"] = (8, 8, lambda x, y, number=number: (6 * number, 32 * x, 32 * y))
+
+
+def scroll():
+    """The lines of the script. When a row leaves the screen it comes back at the other end, with the tile that comes into sight."""
+
+    def load(tile):
+        # Tile 1 is in row 1, tile 7 again, and so on.
+        return f"load row{(tile - 1) % ROWS + 1} tile{tile:02} 1 8 8 fit argb"
+
+    yield "# A list of forty pictures on a screen of six rows, scrolled down to its end and back. Made by make_examples.py."
+    yield from map(load, range(1, ROWS + 1))
+    yield "wait"
+    for tile in range(ROWS + 1, TILES + 1):
+        yield load(tile)
+        yield "wait"
+    for tile in range(TILES - ROWS, 0, -1):
+        yield load(tile)
+        yield "wait"
+    yield "show"
+
+
+LOADS = ROWS + 2 * (TILES - ROWS)
+
+
+def totals(**numbers):
+    """The stats line: the numbers that are not given are 0."""
+    words = "loads active memory joined started takes reused made decoding held cached pooled recycled fetches"
+    return "stats " + " ".join(f"{word} {numbers.get(word, 0)}" for word in words.split())
+
+
+def on_screen():
+    return [shown(f"row{row}", f"tile{row:02}") for row in range(1, ROWS + 1)]
+
+
+# With the words' defaults memory has room for all tiles: each is fetched once, and on the way back memory answers.
+REMEMBERED = totals(loads=LOADS, memory=TILES - ROWS, started=TILES, takes=TILES, made=TILES, cached=TILES, fetches=TILES)
+# Without a memory cache each load fetches; but as many bitmaps as are shown at a time are used again and again.
+REUSED = totals(loads=LOADS, started=LOADS, takes=LOADS, reused=LOADS - ROWS, made=ROWS, pooled=ROWS, fetches=LOADS)
+# Without a pool either, each load makes a bitmap, which is dropped.
+NEITHER = totals(loads=LOADS, started=LOADS, takes=LOADS, made=LOADS, recycled=LOADS, fetches=LOADS)
+
 IMAGES = {name: text(name) for name in PICTURES} | {
     "stairs": bitmap("stairs"),
     # Two bytes behind the raster, which are ignored.
@@ -203,6 +250,16 @@ OUTPUTS = {
         "item cleared",
         "gone cleared",
     ]),
+    # Of the three loads one started a job, one joined it, and memory answered the last.
+    "memory": (0, [
+        pixels("b", "red"),
+        shown("a", "red"),
+        "b cleared",
+        totals(loads=3, memory=1, joined=1, started=1, takes=1, made=1, cached=1, fetches=1),
+    ]),
+    "scroll": (0, on_screen() + [REMEMBERED]),
+    "scroll-without-memory": (0, on_screen() + [REUSED]),
+    "scroll-without-pool": (0, on_screen() + [NEITHER]),
 }
 
 
@@ -214,5 +271,6 @@ def write(name, data):
 os.makedirs(os.path.join(HERE, "images"), exist_ok=True)
 for name, data in IMAGES.items():
     write(os.path.join("images", name), data)
+write("scroll.script", "".join(line + "\n" for line in scroll()).encode())
 for name, (status, lines) in OUTPUTS.items():
     write(name + ".out", "".join(line + "\n" for line in lines + [f"(status {status})"]).encode())

@@ -16,15 +16,28 @@ if [ -n "$newer" ]; then
 fi
 cd "$here" || exit 1
 failed=0
-for name in pictures failures sizes views; do
-    echo "$name.script:"
-    "$built" <"$name.script" >"$name.printed"
+
+# A script, the name of what has to come, and the program's words.
+run() {
+    script=$1
+    name=$2
+    shift 2
+    echo "$script.script${*:+ with }$*:"
+    "$built" "$@" <"$script.script" >"$name.printed"
     echo "(status $?)" >>"$name.printed"
-    cut -c1-100 "$name.printed"
+    cut -c1-180 "$name.printed"
     cmp "$name.printed" "$name.out" || failed=1
     rm -f "$name.printed"
+}
+
+run scroll scroll --stats
+run scroll scroll-without-memory --memory 0 --stats
+run scroll scroll-without-pool --memory 0 --pool 0 --stats
+run memory memory --stats
+for name in pictures failures sizes views; do
+    run "$name" "$name"
 done
-echo "with a word:"
+echo "with a word that is refused:"
 printed=$("$built" --nonsense <pictures.script; echo "(status $?)")
 echo "$printed"
 [ "$printed" = "glide: bad usage

@@ -2,7 +2,8 @@
 // show to standard output.
 #![tactic(auto)]
 
-ghost use Rattle.std.specs.Prelude.{◌≡◌, ◌≢◌, ◌≤◌, [], Err, IfOk};
+ghost use Rattle.std.specs.Prelude.{◌≡◌, ◌≤◌, map, Err, None, IfOk};
+ghost use Rattle.glide_run.specs.Settings.{settings};
 ghost use Rattle.glide_run.specs.Promise.{IsOrStops};
 
 use glide_run::glide_alone;
@@ -22,7 +23,7 @@ enum WordsFault {
 // The status of a run with these words.
 fn run(rt: &HostRuntime, words: &[&str]) -> u8
     ensures known { result ≤ 6 }
-    ensures refused { words.now ≢ [] → IsOrStops 2 result }
+    ensures refused { settings (map (λ word. word.now) words.now) ≡ None → IsOrStops 2 result }
 {
     let mut input = RealInput::new(rt);
     let mut out = RealSink::new(rt);
@@ -30,23 +31,25 @@ fn run(rt: &HostRuntime, words: &[&str]) -> u8
     glide_alone(rt.alloc(), words, &mut input, &mut out, &mut source, ()).status
 }
 
-// The same with words of their own memory. While the program takes no words, the first alone says that
-// they are refused.
+// The same with words of their own memory.
 fn run_words(rt: &HostRuntime, words: &[String]) -> u8
     ensures known { result ≤ 6 }
-    ensures refused { words.now ≢ [] → IsOrStops 2 result }
+    ensures refused { settings (map (λ word. word) words.now) ≡ None → IsOrStops 2 result }
 {
-    match words.first() {
-        Some(word) => run(rt, &[word.as_str()]),
-        None => run(rt, &[]),
+    let mut all = Vec::new(rt.alloc());
+    for word in words {
+        if all.push(word.as_str()).is_err() {
+            return 4;
+        }
     }
+    run(rt, &all)
 }
 
 // The same, or the status where the words are not there. Words that cannot be read stand for one that is
 // refused.
 fn status_of(rt: &HostRuntime, words: Result<Vec<String>, WordsFault>) -> u8
     ensures known { result ≤ 6 }
-    ensures refused { IfOk words (λ words. words.items ≢ [] → IsOrStops 2 result) }
+    ensures refused { IfOk words (λ words. settings (map (λ word. word) words.items) ≡ None → IsOrStops 2 result) }
     ensures unreadable { words ≡ Err WordsFault.Unreadable → IsOrStops 2 result }
     ensures memory { words ≡ Err WordsFault.Memory → result ≡ 4 }
 {

@@ -1,86 +1,67 @@
 -- The promise of a whole run.
-use Rattle.std.proofs.Common.{◌≡◌, ◌≢◌, ℕ, ◌+◌, ◌<◌, ◌≤◌, Bool, true, false, cond, List, [], ◌∷◌, ◌++◌, length, filter, count_by, Some, None, Option, Ok, Err, Result, refl, ap, sym, subst, ◌∙◌, inl, inr, append-nil, arith}
-use Rattle.std.specs.Prelude.{⊤, ◌||◌, ◌&&◌, ◌⊎◌, not, IfSome, IfOk, IsOk, OnSome}
+use Rattle.std.proofs.Common.{◌≡◌, ◌≢◌, ℕ, ◌+◌, ◌-◌, ◌<◌, ◌≤◌, Bool, true, false, cond, List, [], ◌∷◌, ◌++◌, length, Some, None, Option, Ok, Err, Result, refl, ap, sym, subst, ◌∙◌, inl, inr, append-nil, arith, filter, true≢false}
+use Rattle.std.specs.Prelude.{⊤, ◌⊎◌, ◌&&◌, ◌||◌, not, IfSome, IfOk, IsOk, IsSomeAnd}
 use Rattle.std.specs.List.{list_any}
-use Rattle.std.specs.Str.{bytes_eq}
 use Rattle.std.specs.Io.KnownBytes.{Appends}
-use Rattle.std.proofs.lemmas.List.Sums.{sum_by-append}
 use Rattle.bitmap_kind.specs.Picture.{Picture}
-use Rattle.image_format.specs.declared.refusal.Refusal.{Refusal}
-use Rattle.image_format.specs.Content.{picture_in}
-use Rattle.cache_key.specs.KeyBytes.{address_of}
 use Rattle.load_cause.specs.declared.causes.Cause.{Cause}
 use Rattle.load_cause.specs.declared.causes.Cause.TheVariants as causes
-use Rattle.load_cause.specs.Ends.{end_of, end_in}
+use Rattle.load_cause.specs.Ends.{end_in}
 use Rattle.outside.specs.Causes.{Rose}
-use Rattle.outside.specs.Content.{Address, Contents}
+use Rattle.outside.specs.Content.{Contents}
 use Rattle.script_lines.specs.declared.commands.Command.{Command}
 use Rattle.script_lines.specs.declared.commands.Command.TheVariants.{Load, Layout, Clear, ClearAll, Pause, PauseAll, Resume, Trim, Wait, Show, Dump}
 use Rattle.script_lines.specs.Script.{Numbered, Script, script_of}
-use Rattle.printed_lines.specs.Printed.{PrintedLine, lines_text, run_text, says_failed, says_failed_source}
+use Rattle.printed_lines.specs.Printed.{PrintedLine, lines_text, says_failed, says_failed_source}
 use Rattle.script_walk.specs.Walk.{Begin, Outcome, TraceEvent, Dropped, Begun, Ended, Trimmed, Printed, Step, opening, closing, walk, trace}
-use Rattle.script_walk.specs.Ends.{lines_in, bad_line, output, status_of, exit_status}
-use Rattle.script_walk.specs.Marks.{Marks, Mark, Source, Memory, Uncached, FileKey, KeyResults, no_marks, cause_of, outcome_of, begins_in, is_source, source_marked, same_address, same_fetch, distinct, begins_at, failed_fetches, IsMarked, IsLicensed}
-use Rattle.script_walk.specs.Orderly.{In}
-use Rattle.script_walk.specs.Laws.{EachEnd, source_failures, IsAllowed, IsFailedBy, IsMarkedWalk, RunsAreWalks, BlamesAreEnds, EndsDecide, says_cached, NoneCached}
-use Rattle.held_views.specs.Gathers.{IsFetched, Fetches}
-use Rattle.glide_run.specs.Built.{is_normal, is_automatic, is_built, built}
-use Rattle.glide_run.specs.Handed.{Handed, Meanings, IsWritten, IsStill}
-use Rattle.glide_run.specs.Promise.{IsOrStops, answer, IsLicensedRun, IsRun, IsAnswer, IsComplete}
-use Rattle.glide_run.specs.inside.Stops.{ending_text, bad_status, ended_status}
-use Rattle.glide_run.specs.inside.Obeys.{failing_in}
-use Rattle.glide_run.specs.inside.Running.{AreBuilt, HasRun}
+use Rattle.script_walk.specs.Ends.{lines_in, bad_line, status_of, exit_status}
+use Rattle.script_walk.specs.Marks.{Marks, Mark, Source, Memory, Uncached, no_marks, cause_of, outcome_of, begins_in}
+use Rattle.script_walk.specs.Orderly.{In, IsOrderly, without_begin}
+use Rattle.script_walk.specs.Laws.{EachEnd, says_cached}
+use Rattle.engine_world.specs.declared.events.Totals.{Totals}
+use Rattle.engine_world.specs.World.{World, opening as opening_world}
+use Rattle.engine_world.specs.Balance.{Balance}
+use Rattle.engine_shared.specs.Caller.{Caller}
+use Rattle.engine_views.specs.Held.{no_held_views}
+use Rattle.engine_views.specs.Gathers.{IsRight}
+use Rattle.glide_run.specs.Built.{is_automatic, is_built, built}
+use Rattle.glide_run.specs.Handed.{Handed, handed, Meanings, IsWritten, IsStill}
+use Rattle.glide_run.specs.Promise.{IsOrStops, limits_of, Done, events_of, answer, ReachesEnd, StopsShort, IsRun, IsLicensedRun, IsWhole, IsAnswer, IsComplete, IsEngineOf}
+use Rattle.glide_run.specs.Stats.{ending_text}
+use Rattle.glide_run.specs.inside.Stops.{bad_status, ended_status}
+use Rattle.glide_run.specs.inside.Prints.{failing_in}
+use Rattle.glide_run.specs.inside.Obeys.{moment, unprinted}
+use Rattle.glide_run.specs.inside.Running.{AreBuilt, IsFresh, Progress, IsProgress, HasRun, IsClosed, core_in}
 use Rattle.glide_run.specs.declared.run.Ended as code
 use Rattle.glide_run.specs.declared.run.Stop.{Stop}
+use Rattle.glide_run.specs.declared.settings.Settings.{Settings}
+use Rattle.glide_run.specs.declared.stats.Stats.{Stats}
 use Rattle.glide_run.proofs.Events.{Says, each_map, ends_left}
 use Rattle.glide_run.proofs.Scripts.{both_false, not_false}
 use Rattle.glide_run.proofs.Sinks.{wrote_all, wrote_more, wrote_less, wrote_as}
+use Rattle.glide_run.proofs.Unprinted.{ends_as, begins_as}
+use Rattle.glide_run.proofs.Ran.{Ran, ran}
+use Rattle.glide_run.specs.inside.RunLaws.{Laws}
+use Rattle.glide_run.proofs.Licensed.{HasExcuse, IsExcusedEnd, rose_from, ends_excused, engine_is, fetches_are, balance, nothing_out, nothing_held, loads_are, given, given_same, ends_given, licensed_is}
 
--- the laws of the walk that are cited
-pub record Laws : Type 0 where
-  pub runs : RunsAreWalks
-  pub blames : BlamesAreEnds
-  pub cached : NoneCached
-  pub decide : EndsDecide
+-- ---- the status
 
--- ---- what each begin came to
+status_at : (bad : Option ℕ) (failing : Bool) (lines : List PrintedLine) → failing ≡ list_any says_failed lines → bad_status bad failing ≡ status_of lines bad
+status_at None failing lines e = ap (λ b. cond b 1 0) e
+status_at (Some number) failing lines e = refl
 
-allowed : (content : Contents) (b : Begin) (r : Result Picture Cause) → IsFetched (Some content) b r → IsAllowed (end_in content) b r
-allowed content b r (inl e) = inl e
-allowed content b r (inr e) = inr (Source, e)
+most : (bad : Option ℕ) (failing : Bool) → bad_status bad failing ≤ 3
+most None true = omega arith
+most None false = omega arith
+most (Some number) failing = omega arith
 
-end_never_memory : (given : Option (Result Picture Refusal)) → Err causes.Memory ≡ end_of given → ⊥
-end_never_memory None e = cc
-end_never_memory (Some (Ok picture)) e = cc
-end_never_memory (Some (Err refusal)) e = cc
+wanted_is : (wanted status : ℕ) → IsOrStops wanted status → status ≤ 3 → status ≡ wanted
+wanted_is wanted status (inl e) le = e
+wanted_is wanted status (inr (inl e)) le = absurd (omega arith)
+wanted_is wanted status (inr (inr e)) le = absurd (omega arith)
 
-end_never_uncached : (given : Option (Result Picture Refusal)) → Err causes.Uncached ≡ end_of given → ⊥
-end_never_uncached None e = cc
-end_never_uncached (Some (Ok picture)) e = cc
-end_never_uncached (Some (Err refusal)) e = cc
-
-never_memory : (content : Contents) (b : Begin) → IsFetched (Some content) b (Err causes.Memory) → ⊥
-never_memory content b (inl e) = end_never_memory (picture_in content b.spec.key) e
-never_memory content b (inr e) = cc
-
-never_uncached : (content : Contents) (b : Begin) → IsFetched (Some content) b (Err causes.Uncached) → ⊥
-never_uncached content b (inl e) = end_never_uncached (picture_in content b.spec.key) e
-never_uncached content b (inr e) = cc
-
--- No begin failed for what a mark stands for, where none may.
-never_failed : (P : Says) (mark : Mark) (number : ℕ) → ((b : Begin) → P b (Err (cause_of mark)) → ⊥) → (es : List TraceEvent) → EachEnd P es → IsFailedBy mark number es → ⊥
-never_failed P mark number never [] h is = is
-never_failed P mark number never (Ended b result ∷ es) h (inl is) = never b (subst (P b) is.1 h.0)
-never_failed P mark number never (Ended b result ∷ es) h (inr is) = never_failed P mark number never es h.1 is
-never_failed P mark number never (Dropped b ∷ es) h is = never_failed P mark number never es h is
-never_failed P mark number never (Begun b others ∷ es) h is = never_failed P mark number never es h is
-never_failed P mark number never (Trimmed level ∷ es) h is = never_failed P mark number never es h is
-never_failed P mark number never (Printed line ∷ es) h is = never_failed P mark number never es h is
-
-marked_in : (marks : Marks) (begins : List Begin) (begin : Begin) (mark : Mark) → IsMarked marks begins begin mark → In begin begins × (marks begin.number ≡ Some mark)
-marked_in marks [] begin mark is = absurd is
-marked_in marks (b ∷ bs) begin mark (inl is) = (inl (sym is.0), ap (λ (x : Begin). marks x.number) (sym is.0) ∙ is.1)
-marked_in marks (b ∷ bs) begin mark (inr is) = let rest = marked_in marks bs begin mark is in (inr rest.0, rest.1)
+past : (status : ℕ) → 3 < status → status ≤ 3 → ⊥
+past status lt le = absurd (omega arith)
 
 -- ---- loads that are built do not say `cached`
 
@@ -90,7 +71,7 @@ last_false true false e = refl
 last_false false b e = cc
 
 uncached : (command : Command) → is_built command ≡ true → says_cached command ≡ false
-uncached (Load view spec sized) e = last_false (is_normal spec.priority && is_automatic spec.strategy && not spec.skip) spec.cached e
+uncached (Load view spec sized) e = last_false (is_automatic spec.strategy) spec.cached e
 uncached (Layout view width height) e = refl
 uncached (Clear view) e = refl
 uncached ClearAll e = refl
@@ -110,190 +91,245 @@ none_cached (first ∷ others) are =
     let rest = none_cached others parts.1 in
     (λ i. here i || rest i)
 
--- ---- where no fetch failed
+-- ---- what comes to its end was begun
 
-given_one : (content : Contents) (b : Begin) (r : Result Picture Cause) → IsFetched (Some content) b r → (r ≡ Err causes.Source → ⊥) → answer content b ≡ r
-given_one content b r (inl e) never = sym e
-given_one content b r (inr e) never = absurd (never e)
+among_left : (p : Begin → Bool) (b : Begin) (bs : List Begin) → In b (filter p bs) → In b bs
+among_left p b [] among = among
+among_left p b (x ∷ bs) among = elim (p x) as (λ t. In b (cond t (x ∷ filter p bs) (filter p bs)) → In b (x ∷ bs)) [
+  | true ↦ λ among. elim among as (λ a. In b (x ∷ bs)) [ inl e ↦ inl e | inr rest ↦ inr (among_left p b bs rest) ]
+  | false ↦ λ among. inr (among_left p b bs among)
+] among
 
-not_source : (b : Begin) (r : Result Picture Cause) (es : List TraceEvent) → source_failures (Ended b r ∷ es) ≡ [] → (r ≡ Err causes.Source → ⊥) × (source_failures es ≡ [])
-not_source b (Ok picture) es none = (λ e. cc, none)
-not_source b (Err causes.Missing) es none = (λ e. cc, none)
-not_source b (Err (causes.Refused refusal)) es none = (λ e. cc, none)
-not_source b (Err causes.Source) es none = cc
-not_source b (Err causes.Memory) es none = (λ e. cc, none)
-not_source b (Err causes.Uncached) es none = (λ e. cc, none)
+-- What holds of each begin of an orderly trace holds of each that comes to its end.
+ended_begins : (P : Begin → Type 0) (begun : ℕ) (live : List Begin) (es : List TraceEvent) → IsOrderly begun live es → ((b : Begin) → In b live → P b) → ((b : Begin) → In b (begins_in es) → P b) → EachEnd (λ b result. P b) es
+ended_begins P begun live [] orderly lives begins = tt
+ended_begins P begun live (Dropped b ∷ es) orderly lives begins =
+    ended_begins P begun (without_begin b.number live) es orderly.2 (λ x among. lives x (among_left _ x live among)) begins
+ended_begins P begun live (Begun b others ∷ es) orderly lives begins =
+    ended_begins P (begun + 1) (b ∷ live) es orderly.3 (λ x among. elim among as (λ a. P x) [ inl e ↦ subst P (sym e) (begins b (inl refl)) | inr rest ↦ lives x rest ]) (λ x among. begins x (inr among))
+ended_begins P begun live (Ended b result ∷ es) orderly lives begins = (lives b orderly.0, ended_begins P begun live es orderly.1 lives begins)
+ended_begins P begun live (Trimmed level ∷ es) orderly lives begins = ended_begins P begun live es orderly lives begins
+ended_begins P begun live (Printed line ∷ es) orderly lives begins = ended_begins P begun live es orderly lives begins
 
-all_given : (content : Contents) (es : List TraceEvent) → EachEnd (IsFetched (Some content)) es → source_failures es ≡ [] → EachEnd (λ b r. answer content b ≡ r) es
-all_given content [] h none = tt
-all_given content (Ended b r ∷ es) h none =
-    let parts = not_source b r es none in
-    (given_one content b r h.0 parts.0, all_given content es h.1 parts.1)
-all_given content (Dropped b ∷ es) h none = all_given content es h none
-all_given content (Begun b others ∷ es) h none = all_given content es h none
-all_given content (Trimmed level ∷ es) h none = all_given content es h none
-all_given content (Printed line ∷ es) h none = all_given content es h none
+each_both : (P Q : Says) (es : List TraceEvent) → EachEnd P es → EachEnd Q es → EachEnd (λ b result. P b result × Q b result) es
+each_both P Q [] hp hq = tt
+each_both P Q (Ended b result ∷ es) hp hq = ((hp.0, hq.0), each_both P Q es hp.1 hq.1)
+each_both P Q (Dropped b ∷ es) hp hq = each_both P Q es hp hq
+each_both P Q (Begun b others ∷ es) hp hq = each_both P Q es hp hq
+each_both P Q (Trimmed level ∷ es) hp hq = each_both P Q es hp hq
+each_both P Q (Printed line ∷ es) hp hq = each_both P Q es hp hq
 
--- ---- counts
+module _ {I W S : Type 0} (m : Meanings I W S) (laws : Laws) (settings : Settings) (old new : Handed I W S) (result : Result code.Ended Stop) (p : Progress) (is : IsProgress (m.input.left old.input) (m.source.content old.source) result p)
+    (wanting : Bool) (c : Caller) (r : Ran m.source settings (trace p.outcome p.work) wanting old.source new.source c) (status : ℕ) (ending : List ℕ) where
+  -- the events of what was obeyed
+  abbrev all : List TraceEvent
+  all = trace p.outcome p.done
 
-count_append : (p : Address → Bool) (xs ys : List Address) → count_by p xs ≤ count_by p (xs ++ ys)
-count_append p xs ys = omega (arith, sum_by-append (λ a. cond (p a) 1 0) xs ys)
+  abbrev done_with : Outcome → Done
+  done_with o = record { commands = p.done; left = p.left; outcome = o; ending = ending }
 
-front_some : (xs ys : List Address) → xs ≢ [] → xs ++ ys ≢ []
-front_some [] ys some = absurd (some refl)
-front_some (x ∷ xs) ys some = λ e. cc
+  -- what was written by the end, and the status
+  pub record Finished : Type 0 where
+    pub end : (o : Outcome) → trace o p.done ≡ all → ReachesEnd m settings p.script (done_with o) (Some (core_in c)) old.source new.source ⊎ StopsShort m (done_with o) status
+    pub written : IsWritten m.sink old.out new.out (lines_text (lines_in all) ++ ending) (status ≤ 3)
+    pub status_is : status ≤ 3 → status ≡ status_of (lines_in all) (bad_line p.script)
+    pub ends : status ≤ 3 → IsOk result
+    pub told : status ≤ 3 → wanting ≡ true → ⊥
 
--- ---- the end of a run
+  module _ (f : Finished) where
+    no_left : status ≤ 3 → p.script.commands ≡ p.done
+    no_left le = is.parts ∙ ap (λ l. p.done ++ l) (is.none_left (f.ends le)) ∙ append-nil p.done
 
-all_text : (lines : List PrintedLine) (bad : Option ℕ) → lines_text lines ++ ending_text bad ≡ run_text lines bad
-all_text lines None = append-nil (lines_text lines)
-all_text lines (Some number) = refl
+    work_is : status ≤ 3 → trace p.outcome p.work ≡ all
+    work_is le = is.all_work (f.ends le)
 
-status_is : (bad : Option ℕ) (failing : Bool) (lines : List PrintedLine) → failing ≡ list_any says_failed lines → bad_status bad failing ≡ status_of lines bad
-status_is None failing lines e = ap (λ b. cond b 1 0) e
-status_is (Some number) failing lines e = refl
+    -- ---- the promise, for any outcome of the same trace
 
-pub most : (bad : Option ℕ) (failing : Bool) → bad_status bad failing ≤ 3
-most None true = omega arith
-most None false = omega arith
-most (Some number) failing = omega arith
+    module _ (o : Outcome) (e : trace o p.done ≡ all) where
+      status_at_end : status ≤ 3 → status ≡ exit_status o p.script
+      status_at_end le = f.status_is le ∙ ap (λ t. status_of (lines_in t) (bad_line p.script)) (sym e ∙ ap (trace o) (sym (no_left le)))
 
-wanted_is : (wanted status : ℕ) → IsOrStops wanted status → status ≤ 3 → status ≡ wanted
-wanted_is wanted status (inl e) le = e
-wanted_is wanted status (inr (inl e)) le = absurd (omega arith)
-wanted_is wanted status (inr (inr e)) le = absurd (omega arith)
+      excused : EachEnd (IsExcusedEnd m.source laws settings p.outcome p.work wanting old.source new.source c r) all
+      excused = ends_as (trace p.outcome p.work) all is.same_work _ (ends_excused m.source laws settings p.outcome p.work wanting old.source new.source c r)
 
-past : (status : ℕ) → 3 < status → status ≤ 3 → ⊥
-past status lt le = absurd (omega arith)
+      blames : list_any says_failed_source (lines_in (trace o p.done)) ≡ true → Rose (m.source.faults old.source) (m.source.faults new.source)
+      blames blamed = rose_from (Rose (m.source.faults old.source) (m.source.faults new.source)) all
+          (each_map _ _ (λ b result excuse failed. (excuse causes.Source failed).excused.1) all excused)
+          (laws.blames p.outcome p.done (ap (λ t. list_any says_failed_source (lines_in t)) (sym e) ∙ blamed))
 
-module _ {I W S : Type 0} (m : Meanings I W S) (laws : Laws) (old : Handed I W S) where
-  -- what was written at the end of a run, and its status
-  pub record Finished (result : Result code.Ended Stop) (status : ℕ) (mid new : Handed I W S) (p : HasRun m result old mid) : Type 0 where
-    pub written : IsWritten m.sink old.out new.out (output p.outcome p.script) (status ≤ 3)
-    pub status_is : status ≤ 3 → status ≡ exit_status p.outcome p.script
-
-  pub finished : (ended : code.Ended) (status : ℕ) (mid new : Handed I W S) (p : HasRun m (Ok ended) old mid) → IsOrStops (ended_status ended) status
-      → IsWritten m.sink mid.out new.out (ending_text ended.bad) (status ≤ 3) → Finished (Ok ended) status mid new p
-  finished ended status mid new p stops last =
-      let lines = lines_in (trace p.outcome p.script.commands) in
-      record {
-        written = wrote_as m.sink old.out new.out (lines_text lines ++ ending_text ended.bad) (output p.outcome p.script) (status ≤ 3) (all_text lines ended.bad ∙ ap (run_text lines) p.bad)
-            (wrote_more m.sink old.out mid.out new.out (lines_text lines) (ending_text ended.bad) (status ≤ 3) (wrote_all m.sink old.out mid.out (lines_text lines) (IsOk {E = Stop} (Ok ended)) p.written refl) last);
-        status_is = λ le. wanted_is (ended_status ended) status stops le ∙ status_is ended.bad ended.failing lines p.failing ∙ ap (status_of lines) p.bad;
+      run_with : IfSome (m.source.content old.source) (λ content. IsLicensedRun m settings content (done_with o) status (Some (core_in c)) old.source new.source)
+          → IsRun m settings status (Some (core_in c)) old new
+      run_with licensed = record {
+        script = p.script;
+        script_is = is.script_is;
+        done = done_with o;
+        parts = is.parts;
+        end = f.end o e;
+        written = wrote_as m.sink old.out new.out (lines_text (lines_in all) ++ ending) (lines_text (lines_in (trace o p.done)) ++ ending) (status ≤ 3) (ap (λ t. lines_text (lines_in t) ++ ending) (sym e)) f.written;
+        status_is = status_at_end;
+        fetches = omega (
+          arith,
+          fetches_are m.source laws settings p.outcome p.work wanting old.source new.source c r,
+          ap length (begins_as (trace p.outcome p.work) all is.same_work),
+          ap (λ t. length (begins_in t)) e,
+        );
+        blames = blames;
+        engine = λ le. subst (λ t. IsEngineOf settings (m.source.content old.source) t (core_in c)) (work_is le ∙ sym e) (engine_is m.source laws settings p.outcome p.work wanting old.source new.source c r);
+        licensed = licensed;
       }
 
-  pub broken : (stop : Stop) (status : ℕ) (new : Handed I W S) (p : HasRun m (Err stop) old new) → 3 < status → Finished (Err stop) status new new p
-  broken stop status new p lt =
-      let lines = lines_in (trace p.outcome p.script.commands) in
-      record {
-        written = wrote_as m.sink old.out new.out (lines_text lines ++ ending_text (bad_line p.script)) (output p.outcome p.script) (status ≤ 3) (all_text lines (bad_line p.script))
-            (wrote_less m.sink old.out new.out (lines_text lines) (ending_text (bad_line p.script)) (IsOk {T = code.Ended} (Err stop)) (status ≤ 3) p.written (λ le. absurd (past status lt le)));
-        status_is = λ le. absurd (past status lt le);
-      }
+    right : EachEnd (IsRight (m.source.content old.source)) (trace p.outcome p.work)
+    right = ends_as all (trace p.outcome p.work) (sym is.same_work) _ is.right
 
-  module _ (result : Result code.Ended Stop) (status : ℕ) (mid new : Handed I W S) (p : HasRun m result old mid) (f : Finished result status mid new p) (same : mid.source ≡ new.source) where
-    abbrev all : List TraceEvent
-    all = trace p.outcome p.script.commands
+    run_at : (content : Option Contents) → m.source.content old.source ≡ content → IsRun m settings status (Some (core_in c)) old new
+    run_at None known = run_with p.outcome refl (subst (λ k. IfSome k (λ content. IsLicensedRun m settings content (done_with p.outcome) status (Some (core_in c)) old.source new.source)) (sym known) tt)
+    run_at (Some content) known =
+        let o = given m.source laws settings p.outcome p.work wanting old.source new.source c r content known right in
+        run_with o (given_same m.source laws settings p.outcome p.work wanting old.source new.source c r content known right p.done is.same_work)
+        (subst (λ k. IfSome k (λ content. IsLicensedRun m settings content (done_with o) status (Some (core_in c)) old.source new.source)) (sym known)
+        (licensed_is m.source laws settings p.outcome p.work wanting old.source new.source c r content known right p.done is.same_work m.input m.sink p.left ending status f.told))
 
-    abbrev failed : List Address
-    failed = source_failures all ++ p.more
-
-    fetched : Fetches m.source old.source new.source failed (length (begins_in all))
-    fetched = subst (λ s. Fetches m.source old.source s failed (length (begins_in all))) same p.fetches
-
-    -- the promise, for any outcome of the same trace
-    run_with : (o : Outcome) → trace o p.script.commands ≡ all → IfSome (m.source.content old.source) (λ content. IsLicensedRun m content p.script o status old.source new.source) → IsRun m status old new
-    run_with o e licensed = record {
-      script = p.script;
-      script_is = p.script_is;
-      outcome = o;
-      written = wrote_as m.sink old.out new.out (output p.outcome p.script) (output o p.script) (status ≤ 3) (ap (λ t. run_text (lines_in t) (bad_line p.script)) (sym e)) f.written;
-      status_is = λ le. f.status_is le ∙ ap (λ t. status_of (lines_in t) (bad_line p.script)) (sym e);
-      fetches = subst (λ t. m.source.fetched new.source ≤ m.source.fetched old.source + length (begins_in t)) (sym e) fetched.counted;
-      blames = λ blamed. fetched.caused (front_some (source_failures all) p.more (subst (λ t. source_failures t ≢ []) e (laws.blames o p.script.commands blamed)));
-      licensed = licensed;
-    }
-
-    licence : (content : Contents) → m.source.content old.source ≡ Some content → (marked : IsMarkedWalk (end_in content) p.script.commands all)
-        → IsLicensedRun m content p.script (outcome_of (end_in content) marked.marks) status old.source new.source
-    licence content is marked =
-        let o = outcome_of (end_in content) marked.marks in
-        let events = trace o p.script.commands in
-        let ends = subst (λ c. EachEnd (IsFetched c) all) is p.ends in
-        let recorded = subst (λ c. OnSome c (m.source.failed new.source ≡ m.source.failed old.source ++ failed)) is fetched.recorded in
-        record {
-          marks = marked.marks;
-          outcome_is = refl;
-          failed = failed;
-          failed_is = recorded;
-          caused = fetched.caused;
-          licensed = record {
-            source_asked = λ begin mark. laws.cached o p.script.commands (none_cached p.script.commands p.all_built) begin (marked_in marked.marks (begins_in events) begin Source mark).0;
-            source = λ address. omega (
-              arith,
-              ap (λ t. failed_fetches marked.marks (begins_in t) address) marked.walk_is,
-              marked.licensed address,
-              count_append (λ a. same_address a address) (source_failures all) p.more,
-            );
-            memory = λ le begin mark. never_failed (IsFetched (Some content)) Memory begin.number (never_memory content) all ends (marked.owed begin.number Memory (marked_in marked.marks (begins_in events) begin Memory mark).1);
-            uncached = λ begin file mark. absurd (never_failed (IsFetched (Some content)) (Uncached file) begin.number (never_uncached content) all ends (marked.owed begin.number (Uncached file) (marked_in marked.marks (begins_in events) begin (Uncached file) mark).1));
-          };
-        }
-
-    run_at : (content : Option Contents) → m.source.content old.source ≡ content → IsRun m status old new
-    run_at None is = run_with p.outcome refl (subst (λ c. IfSome c (λ content. IsLicensedRun m content p.script p.outcome status old.source new.source)) (sym is) tt)
-    run_at (Some content) is =
-        let ends = subst (λ c. EachEnd (IsFetched c) all) is p.ends in
-        let marked = laws.runs (end_in content) p.outcome p.script.commands (each_map (IsFetched (Some content)) (IsAllowed (end_in content)) (allowed content) all ends) in
-        let o = outcome_of (end_in content) marked.marks in
-        run_with o (sym marked.walk_is) (subst (λ c. IfSome c (λ content. IsLicensedRun m content p.script o status old.source new.source)) (sym is) (licence content is marked))
-
-    pub run_is : IsRun m status old new
+    pub run_is : IsRun m settings status (Some (core_in c)) old new
     run_is = run_at (m.source.content old.source) refl
 
     -- ---- where nothing failed
 
-    none_failed : (Rose (m.source.faults old.source) (m.source.faults new.source) → ⊥) → source_failures all ≡ []
-    none_failed still = elim (source_failures all) as (λ l. (l ≢ [] → ⊥) → l ≡ []) [
-      | [] ↦ λ never. refl
-      | a ∷ more ↦ λ never. absurd (never (λ e. cc))
-    ] (λ some. still (fetched.caused (front_some (source_failures all) p.more some)))
+    module _ (content : Contents) (known : m.source.content old.source ≡ Some content) (still : Rose (m.source.faults old.source) (m.source.faults new.source) → ⊥) (le : status ≤ 3) where
+      -- an end without an excuse is the content's
+      end_given : (b : Begin) (result : Result Picture Cause) (mark : Option Mark) → outcome_of (end_in content) (λ n. mark) b ≡ result
+          → IsExcusedEnd m.source laws settings p.outcome p.work wanting old.source new.source c r b result → b.spec.cached ≡ false → answer content b ≡ result
+      end_given b result None came excuse not_cached = came
+      end_given b result (Some Source) came excuse not_cached = absurd (still (excuse causes.Source (sym came)).excused.1)
+      end_given b result (Some Memory) came excuse not_cached = absurd (f.told le (excuse causes.Memory (sym came)).excused)
+      end_given b result (Some (Uncached file)) came excuse not_cached =
+          let why = excuse causes.Uncached (sym came) in absurd (true≢false (sym why.excused ∙ why.kind ∙ not_cached))
 
-    -- Where no fetch failed, each begin came to what the content gives its key.
-    pub answered : (content : Contents) → m.source.content old.source ≡ Some content → (Rose (m.source.faults old.source) (m.source.faults new.source) → ⊥) → trace (answer content) p.script.commands ≡ all
-    answered content is still =
-        let w = walk p.outcome opening p.script.commands in
-        let ends = subst (λ c. EachEnd (IsFetched c) all) is p.ends in
-        let given = all_given content all ends (none_failed still) in
-        ap (λ (x : Step). x.events ++ closing x.stage)
-        (laws.decide (answer content) p.outcome p.script.commands (ends_left (λ b r. answer content b ≡ r) w.events (closing w.stage) given))
+      not_cached : EachEnd (λ b result. b.spec.cached ≡ false) all
+      not_cached = ended_begins (λ b. b.spec.cached ≡ false) 0 [] all (laws.orderly p.outcome p.done) (λ b among. absurd among)
+          (laws.cached p.outcome p.done (none_cached p.done (subst AreBuilt (no_left le) is.all_built)))
 
-    answer_at : (text : List ℕ) (content : Contents) → m.input.left old.input ≡ Some text → m.source.content old.source ≡ Some content → (Rose (m.source.faults old.source) (m.source.faults new.source) → ⊥)
-        → status ≤ 3 → IsAnswer m content (built (script_of text)) status old.out new.out
-    answer_at text content known is still le =
-        let script : p.script ≡ built (script_of text) = subst (λ o. IfSome o (λ text. p.script ≡ built (script_of text))) known p.script_is in
-        let same = answered content is still in
-        let here : IsAnswer m content p.script status old.out new.out = inr (
-          subst (Appends (m.sink.written old.out) (m.sink.written new.out)) (ap (λ t. run_text (lines_in t) (bad_line p.script)) (sym same)) (wrote_all m.sink old.out new.out (output p.outcome p.script) (status ≤ 3) f.written le),
-          f.status_is le ∙ ap (λ t. status_of (lines_in t) (bad_line p.script)) (sym same),
-        ) in
-        subst (λ s. IsAnswer m content s status old.out new.out) script here
+      answered : trace (answer content) p.done ≡ all
+      answered =
+          let w = walk p.outcome opening p.done in
+          let o = given m.source laws settings p.outcome p.work wanting old.source new.source c r content known right in
+          let came : EachEnd (λ b result. o b ≡ result) all = ends_as (trace p.outcome p.work) all is.same_work _ (ends_given m.source laws settings p.outcome p.work wanting old.source new.source c r content known right) in
+          let ends : EachEnd (λ b result. answer content b ≡ result) all =
+          each_map _ (λ b result. answer content b ≡ result) (λ b result at. end_given b result _ at.0 at.1.0 at.1.1) all
+          (each_both _ _ all came (each_both _ _ all (excused p.outcome refl) not_cached)) in
+          ap (λ (x : Step). x.events ++ closing x.stage)
+          (laws.decide (answer content) p.outcome p.done (ends_left (λ b result. answer content b ≡ result) w.events (closing w.stage) ends))
+
+      answer_here : (stats : Stats) → ending ≡ ending_text settings (bad_line p.script) stats → IsAnswer m settings content p.script status old.out new.out
+      answer_here stats last =
+          let same : trace (answer content) p.script.commands ≡ all = ap (trace (answer content)) (no_left le) ∙ answered in
+          inr (record {
+            stats = stats;
+            written = subst (Appends (m.sink.written old.out) (m.sink.written new.out)) (λ i. lines_text (lines_in (sym same i)) ++ last i) (wrote_all m.sink old.out new.out (lines_text (lines_in all) ++ ending) (status ≤ 3) f.written le);
+            status_is = f.status_is le ∙ ap (λ t. status_of (lines_in t) (bad_line p.script)) (sym same);
+          })
+
+      pub answer_is : IsAnswer m settings content p.script status old.out new.out
+      answer_is = elim (f.end p.outcome refl) as (λ e. IsAnswer m settings content p.script status old.out new.out) [
+        | inl reaches ↦ answer_here reaches.stats reaches.ending_is
+        | inr stops ↦ absurd (past status stops.status_is le)
+      ]
 
     -- A run that no fault disturbs is the answer.
-    pub complete_is : (IsStill m old new → (status ≤ 3) ⊎ (status ≡ 4)) → IsComplete m status old new
-    complete_is ends still = elim (m.input.left old.input) as (λ l. m.input.left old.input ≡ l → IfSome l (λ text. IfSome (m.source.content old.source) (λ content. IsAnswer m content (built (script_of text)) status old.out new.out))) [
+    pub complete_is : (IsStill m old new → (status ≤ 3) ⊎ (status ≡ 4)) → IsComplete m settings status old new
+    complete_is ends still = elim (m.input.left old.input) as (λ l. m.input.left old.input ≡ l → IfSome l (λ text. IfSome (m.source.content old.source) (λ content. IsAnswer m settings content (built (script_of text)) status old.out new.out))) [
       | None ↦ λ e. tt
-      | Some text ↦ λ known. elim (m.source.content old.source) as (λ c. m.source.content old.source ≡ c → IfSome c (λ content. IsAnswer m content (built (script_of text)) status old.out new.out)) [
+      | Some text ↦ λ read. elim (m.source.content old.source) as (λ k. m.source.content old.source ≡ k → IfSome k (λ content. IsAnswer m settings content (built (script_of text)) status old.out new.out)) [
         | None ↦ λ e. tt
-        | Some content ↦ λ is. elim (ends still) as (λ w. IsAnswer m content (built (script_of text)) status old.out new.out) [
-          | inl le ↦ answer_at text content known is still.source le
+        | Some content ↦ λ known. elim (ends still) as (λ w. IsAnswer m settings content (built (script_of text)) status old.out new.out) [
+          | inl le ↦ subst (λ s. IsAnswer m settings content s status old.out new.out) (subst (λ l. IfSome l (λ text. p.script ≡ built (script_of text))) read is.script_is) (answer_is content known still.source le)
           | inr four ↦ inl four
         ]
       ] refl
     ] refl
 
 -- how a run may end that no fault disturbs
-pub still_ends : (wanted status : ℕ) → wanted ≤ 3 → IsOrStops wanted status → (status ≡ 6 → ⊥) → (status ≤ 3) ⊎ (status ≡ 4)
+still_ends : (wanted status : ℕ) → wanted ≤ 3 → IsOrStops wanted status → (status ≡ 6 → ⊥) → (status ≤ 3) ⊎ (status ≡ 4)
 still_ends wanted status le (inl e) not_six = inl (omega (arith, e, le))
 still_ends wanted status le (inr (inl e)) not_six = inr e
 still_ends wanted status le (inr (inr e)) not_six = absurd (not_six e)
+
+-- ---- the two ends
+
+module _ {I W S : Type 0} (m : Meanings I W S) (laws : Laws) (settings : Settings) (i0 : I) (w0 : W) (s0 : S) (c0 : Caller) (fresh : IsFresh c0) (opens : c0.world ≡ opening_world (limits_of settings) (m.source.content s0))
+    (result : Result code.Ended Stop) (i1 : I) (w1 : W) (s1 : S) (c1 : Caller) (run : HasRun m.sink m.source (m.input.left i0) result (moment w0 c0 s0 no_held_views) (moment w1 c1 s1 no_held_views))
+    (sums : Totals) (c : Caller) (closed : IsClosed sums c1 c) where
+  abbrev p : Progress
+  p = run.progress
+
+  pub engine_ran : Ran m.source settings (trace p.outcome p.work) run.wanting s0 s1 c
+  engine_ran = ran m.source m.sink laws.join settings (m.input.left i0) result (moment w0 c0 s0 no_held_views) (moment w1 c1 s1 no_held_views) sums c fresh opens run closed
+
+  pub progress_is : IsProgress (m.input.left i0) (m.source.content s0) result p
+  progress_is = subst (λ content. IsProgress (m.input.left i0) content result p) (ap (λ (w : World). w.content) opens) run.is
+
+  abbrev Ends : W → ℕ → List ℕ → Type 0
+  Ends w2 status ending = Finished m laws settings (handed i0 w0 s0) (handed i1 w2 s1) result p progress_is run.wanting c engine_ran status ending
+
+  stopped : (status : ℕ) → 3 < status → Ends w1 status []
+  stopped status lt = record {
+    end = λ o e. inr (record { status_is = lt; no_ending = refl });
+    written = wrote_less m.sink w0 w1 (lines_text (lines_in (trace p.outcome p.done))) [] (IsOk result) (status ≤ 3) run.written (λ le. absurd (past status lt le));
+    status_is = λ le. absurd (past status lt le);
+    ends = λ le. absurd (past status lt le);
+    told = λ le. absurd (past status lt le);
+  }
+
+  pub stop_is : (status : ℕ) → 3 < status → IsRun m settings status (Some (core_in c)) (handed i0 w0 s0) (handed i1 w1 s1)
+  stop_is status lt = run_is m laws settings (handed i0 w0 s0) (handed i1 w1 s1) result p progress_is run.wanting c engine_ran status [] (stopped status lt)
+
+  module _ (ended : code.Ended) (ok : result ≡ Ok ended) (fetches : ℕ) (counted : fetches ≡ m.source.fetched s1 - m.source.fetched s0) (w2 : W) (status : ℕ) (stops : IsOrStops (ended_status ended) status)
+      (memory : ended.troubles.wanting ≡ true → status ≡ 4) (last : IsWritten m.sink w1 w2 (ending_text settings ended.bad (record { totals = sums; fetches = fetches })) (status ≤ 3)) where
+    abbrev stats : Stats
+    stats = record { totals = sums; fetches = fetches }
+
+    is_ok : IsOk result
+    is_ok = subst IsOk (sym ok) refl
+
+    bad_is : ended.bad ≡ bad_line p.script
+    bad_is = subst (λ r. IfOk r (λ ended. ended.bad ≡ bad_line p.script)) ok progress_is.bad
+
+    failing_is : ended.troubles.failing ≡ failing_in (trace p.outcome p.done)
+    failing_is = subst (λ r. IfOk r (λ ended. ended.troubles.failing ≡ failing_in (trace p.outcome p.done))) ok progress_is.failing
+
+    wanting_is : ended.troubles.wanting ≡ run.wanting
+    wanting_is = subst (λ r. IfOk r (λ ended. ended.troubles.wanting ≡ run.wanting)) ok run.wanting_is
+
+    reaches : (o : Outcome) → trace o p.done ≡ trace p.outcome p.done
+        → ReachesEnd m settings p.script (record { commands = p.done; left = p.left; outcome = o; ending = ending_text settings (bad_line p.script) stats }) (Some (core_in c)) s0 s1
+    reaches o e = record {
+      none_left = progress_is.none_left is_ok;
+      stats = stats;
+      ending_is = refl;
+      balance = subst Balance (sym closed.sums_are) (balance m.source laws settings p.outcome p.work run.wanting s0 s1 c engine_ran);
+      loads = ap (λ (t : Totals). t.loads) closed.sums_are ∙ loads_are m.source laws settings p.outcome p.work run.wanting s0 s1 c engine_ran
+          ∙ ap length (begins_as (trace p.outcome p.work) (trace p.outcome p.done) progress_is.same_work) ∙ ap (λ t. length (begins_in t)) (sym e);
+      none_decoding = ap (λ (t : Totals). t.decoding) closed.sums_are ∙ nothing_out m.source laws settings p.outcome p.work run.wanting s0 s1 c engine_ran;
+      none_held = ap (λ (t : Totals). t.held) closed.sums_are ∙ nothing_held m.source laws settings p.outcome p.work run.wanting s0 s1 c engine_ran;
+      fetches = counted;
+      engine = closed.sums_are;
+    }
+
+    reached : Ends w2 status (ending_text settings (bad_line p.script) stats)
+    reached = record {
+      end = λ o e. inl (reaches o e);
+      written =
+          let lines = lines_text (lines_in (trace p.outcome p.done)) in
+          wrote_as m.sink w0 w2 (lines ++ ending_text settings ended.bad stats) (lines ++ ending_text settings (bad_line p.script) stats) (status ≤ 3) (ap (λ bad. lines ++ ending_text settings bad stats) bad_is)
+          (wrote_more m.sink w0 w1 w2 lines (ending_text settings ended.bad stats) (status ≤ 3) (wrote_all m.sink w0 w1 lines (IsOk result) run.written is_ok) last);
+      status_is = λ le. wanted_is (ended_status ended) status stops le ∙ status_at ended.bad ended.troubles.failing (lines_in (trace p.outcome p.done)) failing_is ∙ ap (status_of (lines_in (trace p.outcome p.done))) bad_is;
+      ends = λ le. is_ok;
+      told = λ le want. absurd (omega (arith, le, memory (wanting_is ∙ want)));
+    }
+
+    pub reach_is : IsRun m settings status (Some (core_in c)) (handed i0 w0 s0) (handed i1 w2 s1)
+    reach_is = run_is m laws settings (handed i0 w0 s0) (handed i1 w2 s1) result p progress_is run.wanting c engine_ran status (ending_text settings (bad_line p.script) stats) reached
+
+    pub reach_whole : (IsStill m (handed i0 w0 s0) (handed i1 w2 s1) → status ≡ 6 → ⊥) → IsComplete m settings status (handed i0 w0 s0) (handed i1 w2 s1)
+    reach_whole not_six =
+        complete_is m laws settings (handed i0 w0 s0) (handed i1 w2 s1) result p progress_is run.wanting c engine_ran status (ending_text settings (bad_line p.script) stats) reached
+        (λ still. still_ends (ended_status ended) status (most ended.bad ended.troubles.failing) stops (not_six still))

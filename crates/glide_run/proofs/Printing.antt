@@ -25,16 +25,24 @@ use Rattle.printed_lines.specs.declared.words.PlainState.TheVariants as plain
 use Rattle.printed_lines.specs.Printed.{PrintedLine, ShownLine, line_text, lines_text, plain_line, shown_of, shown_text, says_failed}
 use Rattle.printed_lines.specs.declared.lines.ShownPicture.{ShownPicture}
 use Rattle.printed_lines.specs.Writes.{Writes}
-use Rattle.script_walk.specs.Walk.{Begin, Outcome, Form, Pixels, Digest, WalkView, Stage, TraceEvent, Printed, picture_line, state_line, view_line, printed, print_events, gathered_view, gathered, names_of, has_name}
+use Rattle.script_walk.specs.Walk.{Begin, Outcome, Form, Pixels, Digest, WalkView, Stage, TraceEvent, Printed, picture_line, result_line, state_line, view_line, printed, print_events, gathered_view, gathered, names_of, has_name}
 use Rattle.script_walk.specs.Ends.{lines_in}
 use Rattle.script_walk.specs.Tracked.{tracked_view, tracked, AreDistinct}
-use Rattle.held_views.specs.Held.{Held}
-use Rattle.held_views.specs.Following.{Follows}
-use Rattle.glide_run.specs.inside.Prints.{plain_state_of, written, Prints, PrintsView, PrintsViews}
+use Rattle.state_machine.specs.declared.entry.Entry.{Entry as HistoryEntry}
+use Rattle.engine_world.specs.declared.events.Note.{Note}
+use Rattle.engine_shared.specs.Tokens.{HoldValue}
+use Rattle.engine_shared.specs.Caller.{Caller}
+use Rattle.fetch_bounds.specs.Follows as followed
+use Rattle.fetch_bounds.specs.Parts.{begins_after, TracesJoin}
+use Rattle.engine_views.specs.Held.{Held}
+use Rattle.engine_views.specs.Following.{standing, Follows, IsShown}
+use Rattle.glide_run.specs.inside.Looks.{Asks, TellsWhole}
+use Rattle.glide_run.specs.inside.Prints.{plain_state_of, written, failing_in, Printer, printer, IsLastIn, AreLastIn, Prints, PrintsView, PrintsViews}
 use Rattle.glide_run.specs.inside.Stops.{stop_of_write}
 use Rattle.glide_run.specs.declared.run.Stop.{Stop}
 use Rattle.glide_run.specs.declared.run.Stop.TheVariants.{Memory, Input, Write}
 use Rattle.glide_run.proofs.Events.{lines-append, text-append}
+use Rattle.glide_run.proofs.Telling.{work_append, asks_none, asks_then, asks_as, on_ok}
 
 some_same : {A : Type 0} (x y : A) → Some x ≡ Some y → x ≡ y
 some_same x y e = cc
@@ -50,7 +58,7 @@ name_of entry = option_map (λ (entry : Entry). entry.0) entry
 
 -- ---- the view at a place
 
-module _ (outcome : Outcome) (s : Stage) (views : Held) (follows : Follows outcome s views) (place : ℕ) (v : WalkView) (at : slice_get s.views place ≡ Some v) where
+module _ (outcome : Outcome) (s : Stage) (c : Caller) (views : Held) (follows : Follows outcome s (standing c views)) (place : ℕ) (v : WalkView) (at : slice_get s.views place ≡ Some v) where
   entry_is : slice_get views.tracked.views place ≡ Some (v.name, v.view)
   entry_is = ap (λ t. slice_get t.views place) follows.tracked_is ∙ slice_get-map tracked_view s.views place ∙ ap (option_map tracked_view) at
 
@@ -80,6 +88,12 @@ no_line_is outcome form name states.Cleared last e not_complete = cc
 no_line_is outcome form name states.Running last e not_complete = refl
 no_line_is outcome form name states.Complete last e not_complete = absurd (not_complete refl)
 
+-- the line of a complete view
+shown_line : (outcome : Outcome) (form : Form) (name : List ℕ) (state : ViewState Cause) (last : Option Begin) (begin : Begin) (picture : Picture) → state ≡ states.Complete → last ≡ Some begin → outcome begin ≡ Ok picture
+    → state_line outcome form name state last ≡ Some (picture_line form name picture)
+shown_line outcome form name state last begin picture complete is came =
+    ap (λ t. state_line outcome form name t last) complete ∙ ap (option_map (λ b. result_line form name (outcome b))) is ∙ ap (λ r. Some (result_line form name r)) came
+
 -- whether such a line says failed
 abbrev pub is_failed : PlainState → Bool
 is_failed (plain.Failed cause) = true
@@ -99,6 +113,11 @@ says_failed_is name plain.Cleared = refl
 
 -- ---- lines that are printed one after the other
 
+-- These lines were written, or a prefix of them and then a fault, and the answer says whether one of them says failed.
+pub record Lines {W : Type 0} (sink : sinks.Ghosts W) (lines : List PrintedLine) (old new : W) (result : Result Bool WriteFault) : Type 0 where
+  pub writes : Writes sink old new (lines_text lines) (written result)
+  pub failing : IfOk result (λ failing. failing ≡ list_any says_failed lines)
+
 one_text : (line : PrintedLine) → lines_text (line ∷ []) ≡ line_text line
 one_text line = append-nil (line_text line)
 
@@ -109,17 +128,21 @@ either_false false = refl
 module _ {W : Type 0} (sink : sinks.Ghosts W) (old new : W) where
   -- one line was printed
   pub prints_one : (line : Option PrintedLine) (is : PrintedLine) (failing : Bool) → line ≡ Some is → failing ≡ says_failed is → Writes sink old new (line_text is) (Ok tt)
-      → Prints sink (option_to_list line) old new (Ok failing)
+      → Lines sink (option_to_list line) old new (Ok failing)
   prints_one line is failing e same w =
-      let all : Prints sink (is ∷ []) old new (Ok failing) = record { writes = subst (λ t. Writes sink old new t (Ok tt)) (sym (one_text is)) w; failing = same ∙ sym (either_false (says_failed is)) } in
-      subst (λ l. Prints sink (option_to_list l) old new (Ok failing)) (sym e) all
+      let all : Lines sink (is ∷ []) old new (Ok failing) = record { writes = subst (λ t. Writes sink old new t (Ok tt)) (sym (one_text is)) w; failing = same ∙ sym (either_false (says_failed is)) } in
+      subst (λ l. Lines sink (option_to_list l) old new (Ok failing)) (sym e) all
 
   -- or a prefix of it
   pub prints_torn : (line : Option PrintedLine) (is : PrintedLine) {r : Result Bool WriteFault} {fault : WriteFault} → line ≡ Some is → r ≡ Err fault → Writes sink old new (line_text is) (Err fault)
-      → Prints sink (option_to_list line) old new r
+      → Lines sink (option_to_list line) old new r
   prints_torn line is {r} {fault} e same w =
-      let all : Prints sink (is ∷ []) old new (Err fault) = record { writes = subst (λ t. Writes sink old new t (Err fault)) (sym (one_text is)) w; failing = tt } in
-      subst (λ l. Prints sink (option_to_list l) old new r) (sym e) (subst (Prints sink (is ∷ []) old new) (sym same) all)
+      let all : Lines sink (is ∷ []) old new (Err fault) = record { writes = subst (λ t. Writes sink old new t (Err fault)) (sym (one_text is)) w; failing = tt } in
+      subst (λ l. Lines sink (option_to_list l) old new r) (sym e) (subst (Lines sink (is ∷ []) old new) (sym same) all)
+
+pub is_none : {A : Type 0} (o : Option A) → ((x : A) → o ≡ Some x → ⊥) → o ≡ None
+is_none None never = refl
+is_none (Some x) never = absurd (never x refl)
 
 -- what `?` answers, where it changes no fault
 pub err_is : {T E : Type 0} (r : Result T E) {e : E} → IsErrAnd r (λ x. x ≡ e) → r ≡ Err e
@@ -139,10 +162,10 @@ module _ {W : Type 0} (sink : sinks.Ghosts W) (out : W) where
   }
 
   -- nothing was
-  pub prints_none : (line : Option PrintedLine) → line ≡ None → Prints sink (option_to_list line) out out (Ok false)
+  pub prints_none : (line : Option PrintedLine) → line ≡ None → Lines sink (option_to_list line) out out (Ok false)
   prints_none line e =
-      let all : Prints sink [] out out (Ok false) = record { writes = wrote_none; failing = refl } in
-      subst (λ l. Prints sink (option_to_list l) out out (Ok false)) (sym e) all
+      let all : Lines sink [] out out (Ok false) = record { writes = wrote_none; failing = refl } in
+      subst (λ l. Lines sink (option_to_list l) out out (Ok false)) (sym e) all
 
 -- ---- views by name
 
@@ -172,20 +195,20 @@ is_some_map : {A B : Type 0} (f : A → B) (o : Option A) → is_some (option_ma
 is_some_map f None = refl
 is_some_map f (Some x) = refl
 
-has_here : (name other : List ℕ) (ns : List (List ℕ)) → bytes_eq name other ≡ true → has_name name (other ∷ ns) ≡ true
+pub has_here : (name other : List ℕ) (ns : List (List ℕ)) → bytes_eq name other ≡ true → has_name name (other ∷ ns) ≡ true
 has_here name other ns e = ap is_some (position_here (bytes_eq name) other ns e)
 
-has_next : (name other : List ℕ) (ns : List (List ℕ)) → bytes_eq name other ≡ false → has_name name (other ∷ ns) ≡ has_name name ns
+pub has_next : (name other : List ℕ) (ns : List (List ℕ)) → bytes_eq name other ≡ false → has_name name (other ∷ ns) ≡ has_name name ns
 has_next name other ns e = ap is_some (position_next (bytes_eq name) other ns e) ∙ is_some_map suc (position (bytes_eq name) ns)
 
-same_name : (a b : List ℕ) → bytes_eq a b ≡ true → a ≡ b
+pub same_name : (a b : List ℕ) → bytes_eq a b ≡ true → a ≡ b
 same_name a b e = (bytes_eq-Decides a b).0 e
 
-own_name : (a : List ℕ) → bytes_eq a a ≡ true
+pub own_name : (a : List ℕ) → bytes_eq a a ≡ true
 own_name a = (bytes_eq-Decides a a).1 refl
 
 -- a view that is there has its name
-has_at : (vs : List WalkView) (place : ℕ) (v : WalkView) → slice_get vs place ≡ Some v → has_name v.name (names_of vs) ≡ true
+pub has_at : (vs : List WalkView) (place : ℕ) (v : WalkView) → slice_get vs place ≡ Some v → has_name v.name (names_of vs) ≡ true
 has_at [] place v e = absurd (none-some _ e)
 has_at (w ∷ vs) zero v e = has_here v.name w.name (names_of vs) (ap (λ (x : WalkView). bytes_eq v.name x.name) (some_same w v e) ∙ own_name v.name)
 has_at (w ∷ vs) (suc place) v e = elim (bytes_eq v.name w.name) as (λ t. bytes_eq v.name w.name ≡ t → has_name v.name (names_of (w ∷ vs)) ≡ true) [
@@ -194,7 +217,7 @@ has_at (w ∷ vs) (suc place) v e = elim (bytes_eq v.name w.name) as (λ t. byte
 ] refl
 
 module _ (o : Outcome) (form : Form) where
-  lines_at : (v : WalkView) → lines_in (printed (view_line o form v)) ≡ option_to_list (view_line o form v)
+  pub lines_at : (v : WalkView) → lines_in (printed (view_line o form v)) ≡ option_to_list (view_line o form v)
   lines_at v = elim (view_line o form v) as (λ l. lines_in (printed l) ≡ option_to_list l) [ None ↦ refl | Some line ↦ refl ]
 
   none_named : (name : List ℕ) (vs : List WalkView) → has_name name (names_of vs) ≡ false → print_events o form (bytes_eq name) vs ≡ []
@@ -205,7 +228,7 @@ module _ (o : Outcome) (form : Form) where
   ] refl
 
   -- The lines of the views of one name are that of the one that has it.
-  named_events : (name : List ℕ) (vs : List WalkView) (place : ℕ) (v : WalkView) → AreDistinct (names_of vs) → slice_get vs place ≡ Some v → bytes_eq name v.name ≡ true
+  pub named_events : (name : List ℕ) (vs : List WalkView) (place : ℕ) (v : WalkView) → AreDistinct (names_of vs) → slice_get vs place ≡ Some v → bytes_eq name v.name ≡ true
       → print_events o form (bytes_eq name) vs ≡ printed (view_line o form v)
   named_events name [] place v distinct at e = absurd (none-some _ at)
   named_events name (w ∷ vs) zero v distinct at e =
@@ -236,24 +259,25 @@ module _ (o : Outcome) (form : Form) where
 
 -- ---- what a call printed of the view at a place
 
-module _ (outcome : Outcome) (s : Stage) (views : Held) (follows : Follows outcome s views) (place : ℕ) (v : WalkView) (at : slice_get s.views place ≡ Some v) where
+module _ (outcome : Outcome) (s : Stage) (c : Caller) (views : Held) (follows : Follows outcome s (standing c views)) (place : ℕ) (v : WalkView) (at : slice_get s.views place ≡ Some v) where
   -- a view that shows no picture
   pub plain_at : (state : ViewState Cause) (name bytes : List ℕ) (is : PlainState) (form : Form) → Some state ≡ state_at place views.tracked.views → Some name ≡ name_at place views.tracked.views → bytes ≡ name
       → plain_state_of state ≡ Some is → view_line outcome form v ≡ Some (plain_line bytes is)
   plain_at state name bytes is form state_e name_e same e =
-      plain_line_is outcome form v.name v.view.state v.last is (ap plain_state_of (state_is outcome s views follows place v at state state_e) ∙ e)
-      ∙ ap (λ n. Some (plain_line n is)) (name_is outcome s views follows place v at name name_e ∙ sym same)
+      plain_line_is outcome form v.name v.view.state v.last is (ap plain_state_of (state_is outcome s c views follows place v at state state_e) ∙ e)
+      ∙ ap (λ n. Some (plain_line n is)) (name_is outcome s c views follows place v at name name_e ∙ sym same)
 
   -- one that runs
   pub silent_at : (state : ViewState Cause) (form : Form) → Some state ≡ state_at place views.tracked.views → plain_state_of state ≡ None → v.view.state ≢ states.Complete → view_line outcome form v ≡ None
   silent_at state form state_e e not_complete =
-      no_line_is outcome form v.name v.view.state v.last (ap plain_state_of (state_is outcome s views follows place v at state state_e) ∙ e) not_complete
+      no_line_is outcome form v.name v.view.state v.last (ap plain_state_of (state_is outcome s c views follows place v at state state_e) ∙ e) not_complete
 
   -- a complete one
-  pub picture_at : (name bytes : List ℕ) (picture : Picture) (form : Form) → Some name ≡ name_at place views.tracked.views → bytes ≡ name
-      → view_line outcome form v ≡ Some (picture_line form v.name picture) → view_line outcome form v ≡ Some (picture_line form bytes picture)
-  picture_at name bytes picture form name_e same e =
-      e ∙ ap (λ n. Some (picture_line form n picture)) (name_is outcome s views follows place v at name name_e ∙ sym same)
+  pub picture_at : (name bytes : List ℕ) (load : HoldValue) (form : Form) → Some name ≡ name_at place views.tracked.views → bytes ≡ name
+      → (shown : IsShown c outcome v load) → view_line outcome form v ≡ Some (picture_line form bytes shown.shows.ready.picture)
+  picture_at name bytes load form name_e same shown =
+      shown_line outcome form v.name v.view.state v.last shown.begin shown.shows.ready.picture shown.complete shown.last shown.shows.is
+      ∙ ap (λ n. Some (picture_line form n shown.shows.ready.picture)) (name_is outcome s c views follows place v at name name_e ∙ sym same)
 
 -- the `shown` line of a picture
 pub digest_text : {W : Type 0} (sink : sinks.Ghosts W) (old new : W) (bytes : List ℕ) (shown : ShownPicture) (picture : Picture) {r : Result ⊤ WriteFault} → shown ≡ shown_of picture
@@ -296,7 +320,7 @@ module _ (o : Outcome) where
       )
 
 module _ {W : Type 0} (sink : sinks.Ghosts W) where
-  pub printed_none : (out : W) → Prints sink [] out out (Ok false)
+  pub printed_none : (out : W) → Lines sink [] out out (Ok false)
   printed_none out = record { writes = wrote_none sink out; failing = refl }
 
   rose_later : (first mid now : ℕ) → first ≤ mid → Rose mid now → Rose first now
@@ -307,7 +331,7 @@ module _ {W : Type 0} (sink : sinks.Ghosts W) where
   whole_of (Err fault) xs ys p q = tt
 
   -- lines behind lines
-  pub printed_more : (old mid new : W) (first second rest : List PrintedLine) (a : Bool) {r : Result Bool WriteFault} → Prints sink first old mid (Ok a) → Prints sink second mid new r
+  pub printed_more : (old mid new : W) (first second rest : List PrintedLine) (a : Bool) {r : Result Bool WriteFault} → Lines sink first old mid (Ok a) → Lines sink second mid new r
       → (IsOk r → rest ≡ []) → Writes sink old new (lines_text (first ++ (second ++ rest))) (written r)
   printed_more old mid new first second rest a {r} p q none =
       let u = p.writes in
@@ -324,24 +348,24 @@ module _ {W : Type 0} (sink : sinks.Ghosts W) where
         cause = record { later = omega (arith, u.cause.later, w.cause.later); rose = λ e. rose_later (sink.faults old) (sink.faults mid) (sink.faults new) u.cause.later (w.cause.rose e) };
       }
 
-  pub printed_then : (old mid new : W) (first second : List PrintedLine) (a b : Bool) → Prints sink first old mid (Ok a) → Prints sink second mid new (Ok b) → Prints sink (first ++ second) old new (Ok (a || b))
+  pub printed_then : (old mid new : W) (first second : List PrintedLine) (a b : Bool) → Lines sink first old mid (Ok a) → Lines sink second mid new (Ok b) → Lines sink (first ++ second) old new (Ok (a || b))
   printed_then old mid new first second a b p q = record {
     writes = subst (λ l. Writes sink old new (lines_text (first ++ l)) (Ok tt)) (append-nil second) (printed_more old mid new first second [] a p q (λ is. refl));
     failing = (λ i. p.failing i || q.failing i) ∙ sym (list_any-append says_failed first second);
   }
 
-  pub printed_until : (old mid new : W) (first second rest all : List PrintedLine) (a : Bool) {r : Result Bool WriteFault} {fault : WriteFault} → all ≡ first ++ (second ++ rest) → Prints sink first old mid (Ok a)
-      → Prints sink second mid new (Err fault) → r ≡ Err fault → Prints sink all old new r
+  pub printed_until : (old mid new : W) (first second rest all : List PrintedLine) (a : Bool) {r : Result Bool WriteFault} {fault : WriteFault} → all ≡ first ++ (second ++ rest) → Lines sink first old mid (Ok a)
+      → Lines sink second mid new (Err fault) → r ≡ Err fault → Lines sink all old new r
   printed_until old mid new first second rest all a {r} {fault} e p q same =
-      let whole : Prints sink (first ++ (second ++ rest)) old new (Err fault) = record { writes = printed_more old mid new first second rest a p q (λ is. cc); failing = tt } in
-      subst (Prints sink all old new) (sym same) (subst (λ l. Prints sink l old new (Err fault)) (sym e) whole)
+      let whole : Lines sink (first ++ (second ++ rest)) old new (Err fault) = record { writes = printed_more old mid new first second rest a p q (λ is. cc); failing = tt } in
+      subst (Lines sink all old new) (sym same) (subst (λ l. Lines sink l old new (Err fault)) (sym e) whole)
 
 tracked_length : (vs : List WalkView) → length (map tracked_view vs) ≡ length vs
 tracked_length [] = refl
 tracked_length (v ∷ vs) = ap suc (tracked_length vs)
 
-pub count_is : (outcome : Outcome) (s : Stage) (views : Held) → Follows outcome s views → length views.tracked.views ≡ length s.views
-count_is outcome s views follows = ap (λ t. length t.views) follows.tracked_is ∙ tracked_length s.views
+pub count_is : (outcome : Outcome) (s : Stage) (c : Caller) (views : Held) → Follows outcome s (standing c views) → length views.tracked.views ≡ length s.views
+count_is outcome s c views follows = ap (λ t. length t.views) follows.tracked_is ∙ tracked_length s.views
 
 -- ---- the view of a name
 
@@ -374,8 +398,8 @@ gathered_name o [] k v at = absurd (none-some _ at)
 gathered_name o (w ∷ vs) zero v at = ap (λ (x : WalkView). Some x.name) (some_same (gathered_view o w) v at)
 gathered_name o (w ∷ vs) (suc k) v at = gathered_name o vs k v at
 
-pub named_at : (o n : Outcome) (s : Stage) (views : Held) → Follows o s views → (name : List ℕ) (place : ℕ) (v : WalkView) → place_of name views.tracked.views ≡ Some place → slice_get (gathered n s.views) place ≡ Some v → bytes_eq name v.name ≡ true
-named_at o n s views follows name place v found at =
+pub named_at : (o n : Outcome) (s : Stage) (c : Caller) (views : Held) → Follows o s (standing c views) → (name : List ℕ) (place : ℕ) (v : WalkView) → place_of name views.tracked.views ≡ Some place → slice_get (gathered n s.views) place ≡ Some v → bytes_eq name v.name ≡ true
+named_at o n s c views follows name place v found at =
     position_at (bytes_eq name) (names_of s.views) place v.name
     (ap (position (bytes_eq name)) (sym (tracked_names s.views)) ∙ ap (λ t. position (bytes_eq name) (names t.views)) (sym follows.tracked_is) ∙ found)
     (gathered_name n s.views place v at)
@@ -401,3 +425,66 @@ memory_alone {T} r h e = not_input T ⊥ (sym e ∙ subst (λ x. OnErr x (r ≡ 
 
 pub no_cause : {T : Type 0} (a : ℕ) (r : Result T Stop) → OnErr r (r ≡ Err Memory) → HasCause a a (r ≡ Err Write)
 no_cause {T} a r h = record { later = omega arith; rose = λ e. not_write T (Rose a a) (sym (subst (λ x. OnErr x (r ≡ Err Memory)) e h) ∙ e) }
+
+-- ---- lines with what is asked of the engine
+
+-- A plain line asks nothing.
+plain_told : (begun : List Begin) (name : List ℕ) (state : PlainState) → followed.Follows begun (Printed (plain_line name state) ∷ []) []
+plain_told begun name (plain.Failed cause) = tt
+plain_told begun name plain.Waiting = tt
+plain_told begun name plain.Paused = tt
+plain_told begun name plain.Cleared = tt
+
+-- A line that shows a picture asks for that of its view's last begin.
+picture_told : (begun : List Begin) (form : Form) (name : List ℕ) (picture : Picture) (last : Option Begin) (begin : Begin) (n : ℕ) (es : List (HistoryEntry Note)) → followed.last_of name begun ≡ last → last ≡ Some begin
+    → followed.IsLoadOf begin n → TellsWhole n picture es → followed.Follows begun (Printed (picture_line form name picture) ∷ []) es
+picture_told begun Pixels name picture last begin n es known is load told = subst (λ b. followed.Shows b picture followed.AllWork es) (sym (known ∙ is)) (n, load, told)
+picture_told begun Digest name picture last begin n es known is load told = subst (λ b. followed.Shows b picture followed.AllWork es) (sym (known ∙ is)) (n, load, told)
+
+module _ {W : Type 0} (sink : sinks.Ghosts W) (held : Held) (outcome : Outcome) (form : Form) (v : WalkView) (old new : Printer W) where
+  -- what was printed of a view
+  pub prints_view : (r : Result Bool WriteFault) → Lines sink (option_to_list (view_line outcome form v)) old.out new.out r → Asks held followed.AllWork old.caller new.caller
+      → OnOk r ((begun : List Begin) → IsLastIn begun v → Asks held (followed.Follows begun (printed (view_line outcome form v))) old.caller new.caller)
+      → PrintsView sink held outcome form v old new r
+  prints_view (Ok failing) p asks told = record {
+    writes = subst (λ l. Writes sink old.out new.out (lines_text l) (Ok tt)) (sym (lines_at outcome form v)) p.writes;
+    failing = p.failing ∙ ap (list_any says_failed) (sym (lines_at outcome form v));
+    asks = asks;
+    told = told;
+  }
+  prints_view (Err fault) p asks told = record {
+    writes = subst (λ l. Writes sink old.out new.out (lines_text l) (Err fault)) (sym (lines_at outcome form v)) p.writes;
+    failing = tt;
+    asks = asks;
+    told = tt;
+  }
+
+  -- of one that shows no picture
+  pub prints_plain : (r : Result Bool WriteFault) (name : List ℕ) (state : PlainState) → old.caller ≡ new.caller → view_line outcome form v ≡ Some (plain_line name state)
+      → Lines sink (option_to_list (view_line outcome form v)) old.out new.out r → PrintsView sink held outcome form v old new r
+  prints_plain r name state same e p =
+      let none : Asks held (λ es. es ≡ []) old.caller new.caller = subst (λ c. Asks held (λ es. es ≡ []) old.caller c) same (record { later = []; seen = sym (append-nil old.caller.seen); are = refl; opening = refl; no_job = record { runs = refl; fails = refl }; follows = λ o s follows. follows }) in
+      let told : (begun : List Begin) → IsLastIn begun v → Asks held (followed.Follows begun (printed (view_line outcome form v))) old.caller new.caller = λ begun known.
+      asks_as held (λ es. es ≡ []) (followed.Follows begun (printed (view_line outcome form v)))
+      (λ es is. subst (λ l. followed.Follows begun (printed l) es) (sym e) (subst (followed.Follows begun (Printed (plain_line name state) ∷ [])) (sym is) (plain_told begun name state))) old.caller new.caller none in
+      prints_view r p (asks_as held (λ es. es ≡ []) followed.AllWork (λ es is. subst followed.AllWork (sym is) tt) old.caller new.caller none) (on_ok _ r told)
+
+  -- of one that runs
+  pub prints_silent : old.caller ≡ new.caller → old.out ≡ new.out → view_line outcome form v ≡ None → PrintsView sink held outcome form v old new (Ok false)
+  prints_silent same out e =
+      let none : Asks held (λ es. es ≡ []) old.caller new.caller = subst (λ c. Asks held (λ es. es ≡ []) old.caller c) same (record { later = []; seen = sym (append-nil old.caller.seen); are = refl; opening = refl; no_job = record { runs = refl; fails = refl }; follows = λ o s follows. follows }) in
+      let told : (begun : List Begin) → IsLastIn begun v → Asks held (followed.Follows begun (printed (view_line outcome form v))) old.caller new.caller = λ begun known.
+      asks_as held (λ es. es ≡ []) (followed.Follows begun (printed (view_line outcome form v)))
+      (λ es is. subst (λ l. followed.Follows begun (printed l) es) (sym e) (subst followed.AllWork (sym is) tt)) old.caller new.caller none in
+      prints_view (Ok false) (subst (λ x. Lines sink (option_to_list (view_line outcome form v)) old.out x (Ok false)) out (prints_none sink old.out (view_line outcome form v) e))
+      (asks_as held (λ es. es ≡ []) followed.AllWork (λ es is. subst followed.AllWork (sym is) tt) old.caller new.caller none) told
+
+  -- of one that shows a picture
+  pub prints_picture : (r : Result Bool WriteFault) (name : List ℕ) (picture : Picture) (load : HoldValue) (shown : IsShown old.caller outcome v load) → v.name ≡ name → view_line outcome form v ≡ Some (picture_line form name picture)
+      → Lines sink (option_to_list (view_line outcome form v)) old.out new.out r → Asks held followed.AllWork old.caller new.caller → OnOk r (Asks held (TellsWhole load.number picture) old.caller new.caller)
+      → PrintsView sink held outcome form v old new r
+  prints_picture (Err fault) name picture load shown same e p asks whole = prints_view (Err fault) p asks tt
+  prints_picture (Ok failing) name picture load shown same e p asks whole = prints_view (Ok failing) p asks (λ begun known.
+      asks_as held (TellsWhole load.number picture) (followed.Follows begun (printed (view_line outcome form v)))
+      (λ es told. subst (λ l. followed.Follows begun (printed l) es) (sym e)
+      (picture_told begun form name picture v.last shown.begin load.number es (ap (λ n. followed.last_of n begun) (sym same) ∙ known) shown.last shown.number told)) old.caller new.caller whole)

@@ -1,71 +1,110 @@
 -- Where a run stands between two commands.
-use Rattle.std.proofs.Common.{◌≡◌, ℕ, Bool, true, false, List, [], ◌∷◌, ◌++◌, Some, None, Option, Ok, Err, Result, sym, subst}
-use Rattle.std.specs.Prelude.{◌||◌, IfSome}
+use Rattle.std.proofs.Common.{◌≡◌, ℕ, ◌+◌, ◌*◌, ◌<◌, ◌≤◌, Bool, true, false, List, [], ◌∷◌, ◌++◌, Some, None, Option, Ok, Err, Result, refl, ap, sym, subst, ◌∙◌, arith}
+use Rattle.std.specs.Prelude.{⊤, ◌||◌, IfSome}
 use Rattle.std.specs.Option.{option_map}
+use Rattle.outside.specs.Content.{Contents}
+use Rattle.outside.specs.declared.sinks.Sink as sinks
+use Rattle.outside.specs.declared.sources.Source as sources
+use Rattle.request_tracker.specs.Limits.{views_limit}
 use Rattle.script_lines.specs.declared.commands.Command.{Command}
+use Rattle.script_lines.specs.Limits.{script_limit}
 use Rattle.script_lines.specs.Script.{Numbered, Script, script_of}
-use Rattle.script_lines.specs.Reading.{IsNext, NextGives}
+use Rattle.script_lines.specs.Reading.{Reader, at_start, IsNext, NextGives}
 use Rattle.script_lines.specs.declared.commands.ScriptFault.{ScriptFault}
 use Rattle.script_lines.specs.declared.commands.ScriptFault.TheVariants as scripts
-use Rattle.script_walk.specs.Walk.{Outcome, opening}
-use Rattle.script_walk.specs.Laws.{EndsAreBegun}
-use Rattle.held_views.specs.Held.{Held}
-use Rattle.held_views.specs.Following.{Follows}
-use Rattle.glide_run.specs.Built.{is_built}
-use Rattle.glide_run.specs.Handed.{Handed, handed, Meanings}
-use Rattle.glide_run.specs.inside.Obeys.{Moment, moment, can_obey_at, Gives}
-use Rattle.glide_run.specs.inside.Running.{IsSplit, HasObeyed, HasRun}
-use Rattle.glide_run.specs.declared.run.Ended as code
+use Rattle.script_walk.specs.Walk.{Outcome, opening, walk}
+use Rattle.engine_world.specs.Permits.{load_limit}
+use Rattle.engine_shared.specs.Caller.{Caller, knowledge_of, content_of}
+use Rattle.decode_job.specs.Sources.{TellsContent}
+use Rattle.engine_views.specs.Held.{Held, no_held_views}
+use Rattle.engine_views.specs.Owner.{MayLoad}
+use Rattle.engine_views.specs.Following.{standing, Follows, IsOnWalk}
+use Rattle.glide_run.specs.inside.Obeys.{Moment, moment, no_troubles, standing_at, can_obey_at, IsUntouched, Gives}
+use Rattle.glide_run.specs.inside.Running.{IsSplit, IsFresh, HasObeyed, HasWorked}
+use Rattle.glide_run.specs.inside.Stops.{ended_by}
 use Rattle.glide_run.specs.declared.run.Obeyed as answers
 use Rattle.glide_run.specs.declared.run.Obeyed.TheVariants.{Done, Bad}
 use Rattle.glide_run.specs.declared.run.Stop.{Stop}
 use Rattle.glide_run.specs.declared.run.Stop.TheVariants.{Memory, Input}
-use Rattle.glide_run.specs.inside.Stops.{ended_by}
+use Rattle.glide_run.specs.declared.run.Troubles.{Troubles}
 use Rattle.glide_run.proofs.Scripts.{split_start, split_more}
-use Rattle.glide_run.proofs.Steps.{Laws, obeyed_none, obeyed_more}
-use Rattle.glide_run.proofs.Runs.{run_ended, run_bad, run_stopped, run_broken}
+use Rattle.glide_run.proofs.Steps.{Laws, same_content, opening_follows, obeyed_none, obeyed_more}
+use Rattle.glide_run.proofs.Works.{run_ended, run_bad, run_stopped, run_broken}
 
-module _ {I W S : Type 0} (m : Meanings I W S) (old : Handed I W S) where
-  -- These commands were obeyed, and this is still asked for.
-  pub record SoFar (asked : Option Script) (failing : Bool) (now : Moment W S) : Type 0 where
+module _ {W S : Type 0} (sink : sinks.Ghosts W) (source : sources.Ghosts S) (text : Option (List ℕ)) (old : Moment W S) where
+  -- These commands were obeyed, and this is still asked for, of which so many bytes are left. No command begins more loads than
+  -- there may be views.
+  pub record SoFar (asked : Option Script) (troubles : Troubles) (room : ℕ) (now : Moment W S) : Type 0 where
     pub done : List Numbered
-    pub obeyed : HasObeyed m.sink m.source done failing (old.out, old.source) now
-    pub split : IsSplit (option_map script_of (m.input.left old.input)) done asked
+    pub obeyed : HasObeyed sink source done troubles old now
+    pub split : IsSplit (option_map script_of text) done asked
+    pub few : (knowledge_of now.caller).begun + views_limit * room ≤ views_limit * script_limit
 
-module _ {I W S : Type 0} (m : Meanings I W S) (laws : Laws) (begun : EndsAreBegun) (old : Handed I W S) where
-  pub starts : (views : Held) (asked : Option Script) → ((o : Outcome) → Follows o opening views) → asked ≡ option_map script_of (m.input.left old.input) → SoFar m old asked false (moment old.out old.source views)
-  starts views asked follows e = record { done = []; obeyed = obeyed_none m.sink m.source laws (old.out, old.source) views follows; split = split_start (m.input.left old.input) asked e }
+-- what a reader may read at the beginning
+pub started : (reader : Reader) → reader ≡ at_start → reader.room ≤ script_limit
+started reader e = omega (arith, ap (λ (r : Reader). r.room) e)
 
-  module _ (asked : Option Script) (failing : Bool) (out : W) (source : S) (views : Held) (p : SoFar m old asked failing (moment out source views)) where
-    pub ends_with : (input : I) (bad : Option ℕ) → IfSome asked (λ script. script ≡ record { commands = []; bad = bad }) → HasRun m (Ok record { bad = bad; failing = failing }) old (handed input out source)
-    ends_with input bad none = run_ended m laws begun old (handed input out source) p.done failing views p.obeyed asked bad p.split none
+nothing_touched : {W S : Type 0} (sink : sinks.Ghosts W) (source : sources.Ghosts S) (now : Moment W S) → IsUntouched sink source now now
+nothing_touched sink source now = record { unmoved = record { caller = refl; loads = refl }; unasked = refl; unwritten = refl }
 
-    pub stops_at : (input : I) (stop : Stop) → HasRun m (Err stop) old (handed input out source)
-    stops_at input stop = run_stopped m laws begun old (handed input out source) p.done failing views p.obeyed asked stop p.split
+tells_as : (a b c d : Option Contents) → b ≡ a → d ≡ c → TellsContent a c → TellsContent b d
+tells_as a b c d e f h = subst (λ x. TellsContent x d) (sym e) (subst (TellsContent a) (sym f) h)
+
+module _ {W S : Type 0} (sink : sinks.Ghosts W) (source : sources.Ghosts S) (laws : Laws) (text : Option (List ℕ)) (old : Moment W S) where
+  pub starts : (asked : Option Script) (room : ℕ) → IsFresh old.caller → old.views ≡ no_held_views → asked ≡ option_map script_of text → room ≤ script_limit
+      → SoFar sink source text old asked no_troubles room old
+  starts asked room fresh none e le = record {
+    done = [];
+    obeyed = subst (λ v. HasObeyed sink source [] no_troubles old (moment old.out old.caller old.source v)) (sym none) (obeyed_none sink source laws old fresh);
+    split = split_start text asked e;
+    few = omega (arith, (opening_follows old.caller fresh (obeyed_none sink source laws old fresh).outcome).begun, le);
+  }
+
+  -- memory was wanting before anything was read
+  pub unread : IsFresh old.caller → old.views ≡ no_held_views → (stop : Stop) → HasWorked sink source text (Err stop) old old
+  unread fresh none stop =
+      let p = starts (option_map script_of text) 0 fresh none refl (omega arith) in
+      run_stopped sink source laws text old p.done no_troubles old p.obeyed old (nothing_touched sink source old) (option_map script_of text) stop p.split
+
+  module _ (asked : Option Script) (troubles : Troubles) (room : ℕ) (now : Moment W S) (p : SoFar sink source text old asked troubles room now) where
+    pub on_walk : IsOnWalk (standing_at now)
+    on_walk = (p.obeyed.outcome, (walk p.obeyed.outcome opening p.done).stage, p.obeyed.follows)
+
+    pub still_tells : TellsContent (content_of old.caller) (source.content old.source) → TellsContent (content_of now.caller) (source.content now.source)
+    still_tells tells = tells_as (content_of old.caller) (content_of now.caller) (source.content old.source) (source.content now.source) (same_content old.caller.world now.caller.world p.obeyed.adds.opening) p.obeyed.jobs.content tells
+
+    pub may_load : (left : ℕ) → left < room → MayLoad now.caller
+    may_load left lt = omega (arith, p.few, lt)
+
+    pub ends_with : (bad : Option ℕ) → IfSome asked (λ script. script ≡ record { commands = []; bad = bad }) → HasWorked sink source text (Ok record { bad = bad; troubles = troubles }) old now
+    ends_with bad none = run_ended sink source laws text old p.done troubles now p.obeyed now (nothing_touched sink source now) asked bad p.split none
+
+    pub stops_at : (stop : Stop) → HasWorked sink source text (Err stop) old now
+    stops_at stop = run_stopped sink source laws text old p.done troubles now p.obeyed now (nothing_touched sink source now) asked stop p.split
 
     -- no command was read
-    pub ends_by : (input : I) (fault : ScriptFault) (line : ℕ) (after : Option Script) → NextGives (Err fault) line asked after → HasRun m (ended_by fault failing) old (handed input out source)
-    ends_by input (scripts.Bad number) line after gives = ends_with input (Some number) gives
-    ends_by input scripts.Input line after gives = stops_at input Input
-    ends_by input scripts.Memory line after gives = stops_at input Memory
+    pub ends_by : (fault : ScriptFault) (line : ℕ) (after : Option Script) → NextGives (Err fault) line asked after → HasWorked sink source text (ended_by fault troubles) old now
+    ends_by (scripts.Bad number) line after gives = ends_with (Some number) gives
+    ends_by scripts.Input line after gives = stops_at Input
+    ends_by scripts.Memory line after gives = stops_at Memory
 
-    module _ (first : Numbered) (after : Option Script) (next : IsNext asked first after) (out2 : W) (source2 : S) (views2 : Held) where
-      pub goes_on : (failed : Bool) (r : answers.Obeyed) → r ≡ Done failed → Gives m.sink m.source first.command (Ok r) (moment out source views) (moment out2 source2 views2) → SoFar m old after (failing || failed) (moment out2 source2 views2)
-      goes_on failed r is gives =
-          let q = subst (λ x. Gives m.sink m.source first.command (Ok x) (moment out source views) (moment out2 source2 views2)) is gives in
+    module _ (first : Numbered) (after : Option Script) (next : IsNext asked first after) (new : Moment W S) where
+      pub goes_on : (more : Troubles) (r : answers.Obeyed) (left : ℕ) → left < room → r ≡ Done more → Gives sink source first.command (Ok r) now new
+          → SoFar sink source text old after (record { failing = troubles.failing || more.failing; wanting = troubles.wanting || more.wanting }) left new
+      goes_on more r left lt is gives =
+          let q = subst (λ x. Gives sink source first.command (Ok x) now new) is gives in
+          let obeys = q.2 p.obeyed.outcome (walk p.obeyed.outcome opening p.done).stage p.obeyed.follows in
           record {
             done = p.done ++ first ∷ [];
-            obeyed = obeyed_more m.sink m.source laws (old.out, old.source) p.done failing (moment out source views) p.obeyed first failed (moment out2 source2 views2) q.0 q.1 (q.2 p.obeyed.outcome _ p.obeyed.follows);
-            split = split_more (option_map script_of (m.input.left old.input)) asked after p.done first next p.split;
+            obeyed = obeyed_more sink source laws old p.done troubles now p.obeyed first more new q.0 q.1 obeys;
+            split = split_more (option_map script_of text) asked after p.done first next p.split;
+            few = omega (arith, p.few, lt, obeys.few);
           }
 
-      pub ends_bad : (input : I) (r : answers.Obeyed) → r ≡ Bad → Gives m.sink m.source first.command (Ok r) (moment out source views) (moment out2 source2 views2)
-          → HasRun m (Ok record { bad = Some first.line; failing = failing }) old (handed input out2 source2)
-      ends_bad input r is gives =
-          let q = subst (λ x. Gives m.sink m.source first.command (Ok x) (moment out source views) (moment out2 source2 views2)) is gives in
-          let same = subst (λ (x : Moment W S). HasObeyed m.sink m.source p.done failing (old.out, old.source) (moment x.out x.source views)) (sym q.1) p.obeyed in
-          run_bad m laws begun old (handed input out2 source2) p.done failing views same asked after first p.split next q.0
+      pub ends_bad : (r : answers.Obeyed) → r ≡ Bad → Gives sink source first.command (Ok r) now new → HasWorked sink source text (Ok record { bad = Some first.line; troubles = troubles }) old new
+      ends_bad r is gives =
+          let q = subst (λ x. Gives sink source first.command (Ok x) now new) is gives in
+          run_bad sink source laws text old p.done troubles now p.obeyed new q.1 asked after first p.split next q.0
 
-      pub breaks : (input : I) (stop : Stop) → Gives m.sink m.source first.command (Err stop) (moment out source views) (moment out2 source2 views2) → HasRun m (Err stop) old (handed input out2 source2)
-      breaks input stop gives =
-          run_broken m laws begun old (handed input out2 source2) p.done failing (moment out source views) views2 p.obeyed stop asked after first p.split next (gives p.obeyed.outcome _ p.obeyed.follows)
+      pub breaks : (stop : Stop) → Gives sink source first.command (Err stop) now new → HasWorked sink source text (Err stop) old new
+      breaks stop gives = run_broken sink source laws text old p.done troubles now p.obeyed new asked after first stop p.split next (gives p.obeyed.outcome (walk p.obeyed.outcome opening p.done).stage p.obeyed.follows)

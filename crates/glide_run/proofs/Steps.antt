@@ -5,28 +5,36 @@ use Rattle.std.specs.List.{list_any}
 use Rattle.std.specs.Io.KnownBytes.{Appends}
 use Rattle.std.proofs.KnownBytes.{Appends-trans, Appends-nil}
 use Rattle.std.proofs.lemmas.List.Folds.{list_any-append}
-use Rattle.bitmap_kind.specs.Picture.{Picture}
-use Rattle.load_cause.specs.declared.causes.Cause.{Cause}
-use Rattle.load_cause.specs.declared.causes.Cause.TheVariants as causes
+use Rattle.outside.specs.Content.{Contents}
 use Rattle.outside.specs.declared.sinks.Sink as sinks
 use Rattle.outside.specs.declared.sources.Source as sources
+use Rattle.load_cause.specs.declared.causes.Cause.TheVariants as causes
 use Rattle.script_lines.specs.Script.{Numbered}
 use Rattle.printed_lines.specs.Printed.{lines_text, says_failed}
 use Rattle.request_tracker.specs.Moves as tracker
+use Rattle.engine_world.specs.World.{World}
+use Rattle.engine_world.specs.Knowledge.{knowledge_in}
+use Rattle.engine_world.specs.EngineMachine.{opening_of}
+use Rattle.engine_shared.specs.Caller.{Caller, content_of}
 use Rattle.script_walk.specs.Walk.{Begin, WalkView, Outcome, TraceEvent, Stage, Step, opening, names_of, names_in, can_obey, step, stay, then_step, walk}
 use Rattle.script_walk.specs.Ends.{lines_in, bad_command}
-use Rattle.script_walk.specs.Tracked.{tracked_view, tracked}
-use Rattle.script_walk.specs.Laws.{EachEnd, IsEndBetween, ends_in, source_failures, EndsAtNextGather, EndsDecide, WalksGoOn}
-use Rattle.held_views.specs.Held.{Held, no_held_views}
-use Rattle.held_views.specs.Following.{Follows}
-use Rattle.held_views.specs.Gathers.{IsFetched, AgreeBefore, Fetches}
+use Rattle.script_walk.specs.Tracked.{tracked_view, tracked, TrackerMakesTheMoves}
+use Rattle.script_walk.specs.Laws.{EachEnd, IsEndBetween, EndsAtNextGather, EndsDecide, WalksGoOn}
+use Rattle.fetch_bounds.specs.Parts.{begins_after, TracesJoin}
+use Rattle.engine_views.specs.Held.{Held, no_held_views}
+use Rattle.engine_views.specs.Owner.{Adds}
+use Rattle.engine_views.specs.Following.{standing, Follows}
+use Rattle.engine_views.specs.Gathers.{AgreeBefore, IsRight}
 use Rattle.glide_run.specs.Built.{is_built}
-use Rattle.glide_run.specs.Handed.{IsWritten}
-use Rattle.glide_run.specs.inside.Obeys.{Moment, moment, failing_in, can_obey_at, HasEnds, IsObeyed, IsTorn}
-use Rattle.glide_run.specs.inside.Running.{AreBuilt, HasObeyed}
-use Rattle.glide_run.proofs.Events.{each_append, each_map, lines-append, ends-append, failures-append, text-append}
-use Rattle.glide_run.proofs.Sources.{unfetched, fetched_more, fetched_as}
-use Rattle.glide_run.proofs.Sinks.{wrote_nothing, wrote_more, wrote_as}
+use Rattle.glide_run.specs.inside.Prints.{AreLastIn, failing_in}
+use Rattle.glide_run.specs.inside.Obeys.{Moment, moment, no_troubles, standing_at, worker_at, can_obey_at, IsObeyed}
+use Rattle.glide_run.specs.inside.Running.{AreBuilt, IsFresh, KnowLast, HasObeyed}
+use Rattle.glide_run.specs.declared.run.Troubles.{Troubles}
+use Rattle.glide_run.proofs.Events.{Says, each_append, each_map, lines-append, text-append}
+use Rattle.glide_run.proofs.Jobs.{none_run, runs_then}
+use Rattle.glide_run.proofs.Histories.{adds_none, adds_then}
+use Rattle.glide_run.proofs.Lasts.{after-append, step_knows, are_last}
+use Rattle.glide_run.proofs.Sinks.{wrote_nothing}
 use Rattle.glide_run.proofs.Scripts.{built_append, built_one}
 
 -- ---- where a command can be obeyed
@@ -36,8 +44,8 @@ names_map [] = refl
 names_map (v ∷ vs) = ap (λ l. v.name ∷ l) (names_map vs)
 
 -- The views that are there are those of the walk.
-pub can_as : (o : Outcome) (s : Stage) (views : Held) (first : Numbered) (can : Bool) → Follows o s views → can_obey_at first.command views ≡ can → can_obey (names_in first.command) (names_of s.views) ≡ can
-can_as o s views first can follows e =
+pub can_as : (o : Outcome) (s : Stage) (c : Caller) (views : Held) (first : Numbered) (can : Bool) → Follows o s (standing c views) → can_obey_at first.command views ≡ can → can_obey (names_in first.command) (names_of s.views) ≡ can
+can_as o s c views first can follows e =
     ap (can_obey (names_in first.command)) (sym (names_map s.views)) ∙ ap (λ t. can_obey (names_in first.command) (tracker.names t.views)) (sym follows.tracked_is) ∙ e
 
 -- ---- the laws that are cited
@@ -46,12 +54,14 @@ pub record Laws : Type 0 where
   pub next_gather : EndsAtNextGather
   pub decide : EndsDecide
   pub go_on : WalksGoOn
+  pub tracker : TrackerMakesTheMoves
+  pub join : TracesJoin
 
 -- the walk of the commands that were obeyed
 abbrev pub walked : Outcome → List Numbered → Step
 walked o done = walk o opening done
 
--- ---- one command behind others
+-- ---- one command after others
 
 module _ (laws : Laws) (done : List Numbered) (good : bad_command done ≡ None) where
   -- Outcomes that agree on what came before the last gather make one walk.
@@ -78,98 +88,79 @@ module _ (laws : Laws) (done : List Numbered) (good : bad_command done ≡ None)
 
 -- ---- what was obeyed
 
-module _ {W S : Type 0} (sink : sinks.Ghosts W) (source : sources.Ghosts S) (laws : Laws) (old : W × S) where
+-- A caller that has made no call stands where each walk opens.
+pub opening_follows : (c : Caller) → IsFresh c → (o : Outcome) → Follows o opening (standing c no_held_views)
+opening_follows c fresh o = record {
+  just = fresh.just;
+  begun = ap (λ l. (knowledge_in l c.who).begun) fresh.unseen;
+  tracked_is = refl;
+  distinct = tt;
+  begins = tt;
+  holds = tt;
+}
+
+pub same_content : (old new : World) → opening_of new ≡ opening_of old → new.content ≡ old.content
+same_content old new e = ap (λ (w : World). w.content) e
+
+module _ {W S : Type 0} (sink : sinks.Ghosts W) (source : sources.Ghosts S) (laws : Laws) (old : Moment W S) where
   -- nothing yet
-  pub obeyed_none : (views : Held) → ((o : Outcome) → Follows o opening views) → HasObeyed sink source [] false old (moment old.0 old.1 views)
-  obeyed_none views follows =
+  pub obeyed_none : IsFresh old.caller → HasObeyed sink source [] no_troubles old (moment old.out old.caller old.source no_held_views)
+  obeyed_none fresh =
       let o : Outcome = λ b. Err causes.Missing in
       record {
         built = refl;
         none_bad = refl;
         outcome = o;
-        follows = follows o;
-        ends = tt;
-        fetches = unfetched source old.1 0;
-        written = wrote_nothing sink old.0;
+        follows = opening_follows old.caller fresh o;
+        adds = adds_none old.caller [];
+        last = λ name. refl;
+        right = tt;
+        jobs = none_run source false old.caller old.caller old.source (record { runs = refl; fails = refl });
+        written = wrote_nothing sink old.out;
         failing_is = refl;
       }
 
-  module _ (done : List Numbered) (failing : Bool) (mid : Moment W S) (p : HasObeyed sink source done failing old mid) (first : Numbered) where
-    -- the begins of one command more, with its ends
-    record HasMore (next : Outcome) (new : S) : Type 0 where
-      walk_is : walked next (done ++ first ∷ []) ≡ then_step (walked p.outcome done) (step next (walked p.outcome done).stage first.command)
-      ends : EachEnd (IsFetched (source.content old.1)) (walked next (done ++ first ∷ [])).events
-      fetches : Fetches source old.1 new (source_failures (walked next (done ++ first ∷ [])).events) (ends_in (walked next (done ++ first ∷ [])).events)
-
-    more : (next : Outcome) (new : S) → can_obey_at first.command mid.views ≡ true → HasEnds source first.command p.outcome next (walked p.outcome done).stage mid.source new → HasMore next new
-    more next new can h =
+  module _ (done : List Numbered) (troubles : Troubles) (mid : Moment W S) (p : HasObeyed sink source done troubles old mid) (first : Numbered) where
+    pub more_text : (next : Outcome) (all : List Numbered) (r : Step) → walked next all ≡ then_step (walked p.outcome done) r
+        → lines_text (lines_in (walked p.outcome done).events) ++ lines_text (lines_in r.events) ≡ lines_text (lines_in (walked next all).events)
+    more_text next all r same =
         let w = walked p.outcome done in
-        let r = step next w.stage first.command in
-        let same = more_walk laws done p.none_bad next p.outcome first h.known (can_as p.outcome w.stage mid.views first true p.follows can) in
-        let ends = subst (λ c. EachEnd (IsFetched c) r.events) p.fetches.content h.ends in
-        record {
-          walk_is = same;
-          ends = subst (λ (x : Step). EachEnd (IsFetched (source.content old.1)) x.events) (sym same) (each_append (IsFetched (source.content old.1)) w.events r.events p.ends ends);
-          fetches = subst (λ (x : Step). Fetches source old.1 new (source_failures x.events) (ends_in x.events)) (sym same)
-              (fetched_as source old.1 new (source_failures w.events ++ source_failures r.events) (source_failures (w.events ++ r.events)) (ends_in w.events + ends_in r.events) (ends_in (w.events ++ r.events))
-              (sym (failures-append w.events r.events)) (omega (arith, ends-append w.events r.events))
-              (fetched_more source old.1 mid.source new (source_failures w.events) (source_failures r.events) (ends_in w.events) (ends_in r.events) p.fetches h.fetches));
-        }
-
-    more_text : (next : Outcome) → walked next (done ++ first ∷ []) ≡ then_step (walked p.outcome done) (step next (walked p.outcome done).stage first.command)
-        → lines_text (lines_in (walked p.outcome done).events) ++ lines_text (lines_in (step next (walked p.outcome done).stage first.command).events) ≡ lines_text (lines_in (walked next (done ++ first ∷ [])).events)
-    more_text next same =
-        let w = walked p.outcome done in
-        let r = step next w.stage first.command in
         sym (ap lines_text (lines-append w.events r.events) ∙ text-append (lines_in w.events) (lines_in r.events)) ∙ sym (ap (λ (x : Step). lines_text (lines_in x.events)) same)
 
-    more_failing : (next : Outcome) (failed : Bool) → walked next (done ++ first ∷ []) ≡ then_step (walked p.outcome done) (step next (walked p.outcome done).stage first.command)
-        → failed ≡ failing_in (step next (walked p.outcome done).stage first.command).events → (failing || failed) ≡ failing_in (walked next (done ++ first ∷ [])).events
-    more_failing next failed same e =
-        let w = walked p.outcome done in
-        let r = step next w.stage first.command in
-        (λ i. p.failing_is i || e i) ∙ sym (ap (list_any says_failed) (lines-append w.events r.events) ∙ list_any-append says_failed (lines_in w.events) (lines_in r.events))
-        ∙ sym (ap (λ (x : Step). failing_in x.events) same)
+    pub more_right : (P : Says) (next : Outcome) (all : List Numbered) (r : Step) → walked next all ≡ then_step (walked p.outcome done) r → EachEnd P (walked p.outcome done).events → EachEnd P r.events → EachEnd P (walked next all).events
+    more_right P next all r same hx hy = subst (λ (x : Step). EachEnd P x.events) (sym same) (each_append P (walked p.outcome done).events r.events hx hy)
+
+    -- what a later call says of the content is said of that at the beginning
+    pub right_as : (es : List TraceEvent) → EachEnd (IsRight (content_of mid.caller)) es → EachEnd (IsRight (content_of old.caller)) es
+    right_as es h = subst (λ c. EachEnd (IsRight c) es) (same_content old.caller.world mid.caller.world p.adds.opening) h
 
     -- the command was obeyed
-    pub obeyed_more : (failed : Bool) (new : Moment W S) → is_built first.command ≡ true → can_obey_at first.command mid.views ≡ true
-        → IsObeyed sink source first.command failed p.outcome (walked p.outcome done).stage mid new → HasObeyed sink source (done ++ first ∷ []) (failing || failed) old new
-    obeyed_more failed new built can q =
+    pub obeyed_more : (more : Troubles) (new : Moment W S) → is_built first.command ≡ true → can_obey_at first.command mid.views ≡ true
+        → IsObeyed sink source first.command more p.outcome (walked p.outcome done).stage mid new
+        → HasObeyed sink source (done ++ first ∷ []) (record { failing = troubles.failing || more.failing; wanting = troubles.wanting || more.wanting }) old new
+    obeyed_more more new built can q =
         let w = walked p.outcome done in
+        let s = w.stage in
         let next = q.next in
-        let all = more next new.source can q.ends in
+        let r = step next s first.command in
+        let all = done ++ first ∷ [] in
+        let can_walk = can_as p.outcome s mid.caller mid.views first true p.follows can in
+        let same = more_walk laws done p.none_bad next p.outcome first q.known can_walk in
+        let begun = begins_after [] w.events in
+        let known = are_last begun s.views p.follows.distinct p.last in
         record {
           built = built_append done (first ∷ []) p.built (built_one first built);
-          none_bad = more_good laws done p.none_bad p.outcome first (can_as p.outcome w.stage mid.views first true p.follows can);
+          none_bad = more_good laws done p.none_bad p.outcome first can_walk;
           outcome = next;
-          follows = subst (λ (x : Step). Follows next x.stage new.views) (sym all.walk_is) q.follows;
-          ends = all.ends;
-          fetches = all.fetches;
-          written = subst (Appends (sink.written old.0) (sink.written new.out)) (more_text next all.walk_is)
-              (Appends-trans (sink.written old.0) (sink.written mid.out) (sink.written new.out) (lines_text (lines_in w.events)) (lines_text (lines_in (step next w.stage first.command).events)) p.written q.written);
-          failing_is = more_failing next failed all.walk_is q.failing_is;
-        }
-
-    -- What was obeyed, with a prefix of the lines of the last command alone.
-    pub record HasTorn (new : Moment W S) : Type 0 where
-      pub built : AreBuilt (done ++ first ∷ [])
-      pub none_bad : bad_command (done ++ first ∷ []) ≡ None
-      pub outcome : Outcome
-      pub ends : EachEnd (IsFetched (source.content old.1)) (walked outcome (done ++ first ∷ [])).events
-      pub fetches : Fetches source old.1 new.source (source_failures (walked outcome (done ++ first ∷ [])).events) (ends_in (walked outcome (done ++ first ∷ [])).events)
-      pub written : IsWritten sink old.0 new.out (lines_text (lines_in (walked outcome (done ++ first ∷ [])).events)) ⊥
-
-    pub torn_more : (new : Moment W S) → IsTorn sink source first.command p.outcome (walked p.outcome done).stage mid new → HasTorn new
-    torn_more new q =
-        let w = walked p.outcome done in
-        let next = q.next in
-        let all = more next new.source q.can q.ends in
-        record {
-          built = built_append done (first ∷ []) p.built (built_one first q.built);
-          none_bad = more_good laws done p.none_bad p.outcome first (can_as p.outcome w.stage mid.views first true p.follows q.can);
-          outcome = next;
-          ends = all.ends;
-          fetches = all.fetches;
-          written = wrote_as sink old.0 new.out (lines_text (lines_in w.events) ++ lines_text (lines_in (step next w.stage first.command).events)) (lines_text (lines_in (walked next (done ++ first ∷ [])).events)) ⊥ (more_text next all.walk_is)
-              (wrote_more sink old.0 mid.out new.out (lines_text (lines_in w.events)) (lines_text (lines_in (step next w.stage first.command).events)) ⊥ p.written q.written);
+          follows = subst (λ (x : Step). Follows next x.stage (standing_at new)) (sym same) q.follows;
+          adds = subst (λ (x : Step). Adds old.caller new.caller [] x.events) (sym same)
+              (adds_then laws.join old.caller mid.caller new.caller [] w.events r.events p.adds (q.adds begun known));
+          last = subst (λ (x : Step). KnowLast (begins_after [] x.events) x.stage.views) (sym same)
+              (subst (λ b. KnowLast b r.stage.views) (sym (after-append [] w.events r.events)) (step_knows laws.tracker next s begun first.command p.follows.distinct p.last));
+          right = more_right (IsRight (content_of old.caller)) next all r same p.right (right_as r.events q.right);
+          jobs = runs_then source troubles.wanting more.wanting (worker_at old) (worker_at mid) (worker_at new) p.jobs q.jobs;
+          written = subst (Appends (sink.written old.out) (sink.written new.out)) (more_text next all r same)
+              (Appends-trans (sink.written old.out) (sink.written mid.out) (sink.written new.out) (lines_text (lines_in w.events)) (lines_text (lines_in r.events)) p.written q.written);
+          failing_is = (λ i. p.failing_is i || q.failing_is i) ∙ sym (ap (list_any says_failed) (lines-append w.events r.events) ∙ list_any-append says_failed (lines_in w.events) (lines_in r.events))
+              ∙ sym (ap (λ (x : Step). failing_in x.events) same);
         }

@@ -1,31 +1,24 @@
--- The part of a script whose effect exists: a trim, and a load that says more than its key, are bad lines until what they set
--- is there. This project's own.
+-- The part of a script whose effect exists: a load that says something of the disk cache, or asks the caches alone, is a bad
+-- line until what it speaks of is there. This project's own.
 use Rattle.std.specs.Prelude.{ℕ, Bool, true, false, not, ◌&&◌, List, [], ◌∷◌, if◌then◌else◌, Some}
 use Rattle.std.specs.declared.option.Option.{Option}
 use Rattle.cache_key.specs.declared.load_spec.LoadSpec.{LoadSpec}
-use Rattle.cache_key.specs.declared.load_spec.Priority.{Priority}
-use Rattle.cache_key.specs.declared.load_spec.Priority.TheVariants.{Normal}
 use Rattle.cache_key.specs.declared.load_spec.Strategy.{Strategy}
 use Rattle.cache_key.specs.declared.load_spec.Strategy.TheVariants.{Automatic}
 use Rattle.script_lines.specs.declared.commands.Command.{Command}
-use Rattle.script_lines.specs.declared.commands.Command.TheVariants.{Load, Trim}
+use Rattle.script_lines.specs.declared.commands.Command.TheVariants.{Load}
 use Rattle.script_lines.specs.Script.{Numbered, Script, with_first}
-
-abbrev pub is_normal : Priority → Bool
-is_normal Normal = true
-is_normal priority = false
 
 abbrev pub is_automatic : Strategy → Bool
 is_automatic Automatic = true
 is_automatic strategy = false
 
--- a load that says nothing of its priority, its strategy or the caches
-abbrev pub is_plain : LoadSpec → Bool
-is_plain spec = is_normal spec.priority && is_automatic spec.strategy && not spec.skip && not spec.cached
+-- a load that says nothing of the disk cache, and lets the source answer, whatever its priority and whether it skips memory
+abbrev pub is_built_load : LoadSpec → Bool
+is_built_load spec = is_automatic spec.strategy && not spec.cached
 
 abbrev pub is_built : Command → Bool
-is_built (Load view spec sized) = is_plain spec
-is_built (Trim level) = false
+is_built (Load view spec sized) = is_built_load spec
 is_built command = true
 
 abbrev pub built_from : List Numbered → Option ℕ → Script

@@ -6,6 +6,7 @@ pub use Rattle.script_walk.specs.Walk
 pub use Rattle.script_walk.specs.Ends
 pub use Rattle.script_walk.specs.Marks
 pub mod Settings
+pub mod Stats
 pub mod Built
 pub mod Handed
 pub mod Promise

@@ -1,10 +1,13 @@
 // Obeys a script of views, and prints what each of them shows.
 #![tactic(auto)]
 
+mod laws;
+mod looks;
 mod obeys;
 mod prints;
 mod run;
 mod settings;
+mod stats;
 mod top;
 mod walks;
 
@@ -17,6 +20,8 @@ mod limit_tests;
 mod line_tests;
 #[cfg(test)]
 mod picture_tests;
+#[cfg(test)]
+mod stats_tests;
 #[cfg(test)]
 mod test_runs;
 #[cfg(test)]

@@ -11,9 +11,9 @@ fn pauses(rt: HostRuntime) -> Result<(), Fail> {
     let alloc = rt.alloc();
     let running = b"load a red 1 2 1 none argb\npause\nshow\nresume\ndump a\n";
     check_script(&rt, alloc, running, PAUSED, 0, 1)?;
-    // A complete view is paused by `pauseall` alone, and fetched again when it is resumed.
+    // A complete view is paused by `pauseall` alone, and is there again when it is resumed.
     let all = b"load a red 1 2 1 none argb\nwait\npauseall\nshow\nresume\ndump a\n";
-    check_script(&rt, alloc, all, PAUSED, 0, 2)?;
+    check_script(&rt, alloc, all, PAUSED, 0, 1)?;
     let kept = b"load a red 1 2 1 none argb\nwait\npause\ndump a\nresume\ndump a\n";
     check_script(&rt, alloc, kept, TWICE, 0, 1)?;
     let loaded = b"pause\nload a red 1 2 1 none argb\nshow\nresume\ndump a\n";
@@ -90,23 +90,7 @@ fn lines_that_are_not_built(rt: HostRuntime) -> Result<(), Fail> {
     check_script(
         &rt,
         alloc,
-        b"load a red 1 2 1 none argb high\n",
-        first,
-        3,
-        0,
-    )?;
-    check_script(
-        &rt,
-        alloc,
         b"load a red 1 2 1 none argb data\n",
-        first,
-        3,
-        0,
-    )?;
-    check_script(
-        &rt,
-        alloc,
-        b"load a red 1 2 1 none argb skip\n",
         first,
         3,
         0,
@@ -121,14 +105,14 @@ fn lines_that_are_not_built(rt: HostRuntime) -> Result<(), Fail> {
     )?;
     let plain = b"load a red 1 2 1 none argb auto normal atleast\ndump a\n";
     check_script(&rt, alloc, plain, LINE, 0, 1)?;
-    check_script(
-        &rt,
-        alloc,
-        b"load a red 1 2 1 none argb\nwait\ntrim 40\ndump a\n",
-        b"glide: bad script line 3\n",
-        3,
-        1,
-    )
+    let further = b"load a red 1 2 1 none argb skip immediate\ndump a\n";
+    check_script(&rt, alloc, further, LINE, 0, 1)?;
+    // What is held stays, whatever a trim clears.
+    let trimmed = b"load a red 1 2 1 none argb\nwait\ntrim 40\ndump a\n";
+    check_script(&rt, alloc, trimmed, LINE, 0, 1)?;
+    let level = b"load a red 1 2 1 none argb\ntrim 1001\n";
+    let second = b"glide: bad script line 2\n";
+    check_script(&rt, alloc, level, second, 3, 0)
 }
 
 // The 4,096th view is the last: one more is a bad line, and nothing is fetched for it.

@@ -1,12 +1,38 @@
 // How a command went, and how a run ends.
+ghost use Rattle.std.specs.Prelude.{◌≡◌, ◌||◌};
+
 use faults::NoMemory;
 use outside::WriteFault;
+
+/// What went wrong in some commands, besides that they were obeyed.
+#[derive(Clone, Copy, Debug, PartialEq, Eq)]
+pub struct Troubles {
+    /// Whether a printed line says that a view failed.
+    pub failing: bool,
+    /// Whether a job failed for want of memory.
+    pub wanting: bool,
+}
+
+impl Troubles {
+    /// Those of some commands and of others.
+    pub fn and(self, more: Troubles) -> Troubles
+        ensures { result ≡ record {
+          failing = self.failing || more.failing;
+          wanting = self.wanting || more.wanting;
+        } }
+    {
+        Troubles {
+            failing: self.failing || more.failing,
+            wanting: self.wanting || more.wanting,
+        }
+    }
+}
 
 /// How a command went.
 #[derive(Clone, Copy, Debug, PartialEq, Eq)]
 pub enum Obeyed {
-    /// It was obeyed, and whether it printed that a view failed.
-    Done(bool),
+    /// It was obeyed, and this went wrong.
+    Done(Troubles),
     /// It asks for what cannot be done.
     Bad,
 }
@@ -49,6 +75,6 @@ impl From<WriteFault> for Stop {
 pub struct Ended {
     /// The number of the line that is bad, if one is.
     pub bad: Option<u64>,
-    /// Whether a printed line says that a view failed.
-    pub failing: bool,
+    /// What went wrong in the lines before.
+    pub troubles: Troubles,
 }

@@ -21,7 +21,7 @@ pub(crate) const LINE: &[u8] = b"a pixels ff0000ff0000ffff\n";
 // No call of the source fails.
 pub(crate) const NONE: u64 = 1000;
 
-fn text_at(alloc: Global, url: &[u8], bytes: &[u8]) -> Result<Content, AllocError> {
+pub(crate) fn text_at(alloc: Global, url: &[u8], bytes: &[u8]) -> Result<Content, AllocError> {
     Ok(Content {
         url: url.to_vec(alloc)?,
         sig: b"1".to_vec(alloc)?,
@@ -44,21 +44,34 @@ pub(crate) fn source_of(alloc: Global, red: &[u8], fails: u64) -> Result<MemoryS
 #[derive(Drop)]
 pub(crate) struct Wanted<'a>(pub &'a [u8], pub u8, pub u64);
 
-pub(crate) fn check(
+// Runs a script with these words.
+pub(crate) fn check_words(
     rt: &impl Abort,
     alloc: Global,
+    words: &[&str],
     script: &[u8],
     mut source: MemorySource,
     wanted: Wanted<'_>,
 ) -> Result<(), Fail> {
     let mut input = MemoryInput::new(script.to_vec(alloc)?, Vec::new(alloc));
     let mut out = MemorySink::new(7, Vec::new(alloc));
-    let ending = glide_alone(alloc, &[], &mut input, &mut out, &mut source, 5u8);
+    let ending = glide_alone(alloc, words, &mut input, &mut out, &mut source, 5u8);
     assert_eq!(rt; out.written(), wanted.0);
     assert_eq!(rt; ending.status, wanted.1);
     assert_eq!(rt; ending.files, 5);
+    assert_eq!(rt; ending.engine.is_some(), wanted.1 != 2);
     assert_eq!(rt; source.fetches(), wanted.2);
     Ok(())
+}
+
+pub(crate) fn check(
+    rt: &impl Abort,
+    alloc: Global,
+    script: &[u8],
+    source: MemorySource,
+    wanted: Wanted<'_>,
+) -> Result<(), Fail> {
+    check_words(rt, alloc, &[], script, source, wanted)
 }
 
 // Runs the first script over this text of `red`.

@@ -37,7 +37,7 @@ fn words_of_a_load(rt: HostRuntime) -> Result<(), Fail> {
     check_script(
         &rt,
         alloc,
-        b"load a red 1 2 1 none argb low\n",
+        b"load a red 1 2 1 none argb lower\n",
         b"glide: bad script line 1\n",
         3,
         0,

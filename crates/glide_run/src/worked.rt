@@ -27,10 +27,12 @@ fn worked_failures()
 
 // A bad line ends the run: what was printed before it stands. So does a line that is not built.
 fn worked_bad_lines()
-    ensures bad { Gives (Some red_text) (load_a ∷ codes "# shown" ∷ codes "dump a" ∷ codes "dumb a" ∷ codes "dump a" ∷ [])
+    ensures bad { Gives (Some red_text)
+        (load_a ∷ codes "# shown" ∷ codes "dump a" ∷ codes "dumb a" ∷ codes "dump a" ∷ [])
         (codes "a pixels ff0000ff0000ffff" ∷ codes "glide: bad script line 4" ∷ []) 3 }
     ensures unknown { Gives None (codes "dump z" ∷ []) (codes "glide: bad script line 1" ∷ []) 3 }
-    ensures not_built { Gives (Some red_text) (load_a ∷ codes "dump a" ∷ codes "trim 40" ∷ codes "dump a" ∷ [])
+    ensures not_built { Gives (Some red_text)
+        (load_a ∷ codes "dump a" ∷ codes "load a red 1 2 1 none argb cached" ∷ codes "dump a" ∷ [])
         (codes "a pixels ff0000ff0000ffff" ∷ codes "glide: bad script line 3" ∷ []) 3 }
 {
     ends_decide_the_walk();

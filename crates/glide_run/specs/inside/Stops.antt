@@ -1,23 +1,18 @@
 -- Which stop of a run a fault of a call is, and which status an end is.
-use Rattle.std.specs.Prelude.{ℕ, Bool, List, [], if◌then◌else◌, Some, None, Ok, Err, Result}
+use Rattle.std.specs.Prelude.{ℕ, Bool, if◌then◌else◌, Some, None, Ok, Err, Result}
 use Rattle.std.specs.declared.option.Option.{Option}
 use Rattle.outside.specs.declared.sinks.WriteFault.{WriteFault}
 use Rattle.outside.specs.declared.sinks.WriteFault.TheVariants as faults
 use Rattle.script_lines.specs.declared.commands.ScriptFault.{ScriptFault}
 use Rattle.script_lines.specs.declared.commands.ScriptFault.TheVariants as scripts
-use Rattle.printed_lines.specs.Printed.{bad_line_text}
 use Rattle.glide_run.specs.declared.run.Ended.{Ended}
 use Rattle.glide_run.specs.declared.run.Stop.{Stop}
 use Rattle.glide_run.specs.declared.run.Stop.TheVariants.{Memory, Input, Write}
+use Rattle.glide_run.specs.declared.run.Troubles.{Troubles}
 
 abbrev pub stop_of_write : WriteFault → Stop
 stop_of_write faults.Failed = Write
 stop_of_write faults.Memory = Memory
-
--- what is written last: the number of a bad line, or nothing
-abbrev pub ending_text : Option ℕ → List ℕ
-ending_text None = []
-ending_text (Some number) = bad_line_text number
 
 -- the status of a script that ended, by its bad line and by whether a printed line says failed
 abbrev pub bad_status : Option ℕ → Bool → ℕ
@@ -25,10 +20,10 @@ bad_status None failing = if failing then 1 else 0
 bad_status (Some number) failing = 3
 
 abbrev pub ended_status : Ended → ℕ
-ended_status ended = bad_status ended.bad ended.failing
+ended_status ended = bad_status ended.bad ended.troubles.failing
 
 -- how a script ends where no command was read
-abbrev pub ended_by : ScriptFault → Bool → Result Ended Stop
-ended_by (scripts.Bad number) failing = Ok record { bad = Some number; failing = failing }
-ended_by scripts.Input failing = Err Input
-ended_by scripts.Memory failing = Err Memory
+abbrev pub ended_by : ScriptFault → Troubles → Result Ended Stop
+ended_by (scripts.Bad number) troubles = Ok record { bad = Some number; troubles = troubles }
+ended_by scripts.Input troubles = Err Input
+ended_by scripts.Memory troubles = Err Memory

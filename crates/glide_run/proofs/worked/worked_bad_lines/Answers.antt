@@ -27,5 +27,5 @@ returns-clause-unknown c content e =
 pub returns-clause-not_built : goal.returns-clause-not_built
 unfolding planned decoded script_of encode_with digits number_at size_at maximum_at head_of pixels_at
 returns-clause-not_built c content e =
-    comes_to c.ends_decide_the_walk.ensures content (load_a ∷ codes "dump a" ∷ codes "trim 40" ∷ codes "dump a" ∷ [])
+    comes_to c.ends_decide_the_walk.ensures content (load_a ∷ codes "dump a" ∷ codes "load a red 1 2 1 none argb cached" ∷ codes "dump a" ∷ [])
     (codes "a pixels ff0000ff0000ffff" ∷ codes "glide: bad script line 3" ∷ []) 3 (Ok red_picture) (ap red_end e, tt) refl refl

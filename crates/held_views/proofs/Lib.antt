@@ -1,5 +1,0 @@
-mod Orders
-mod Loads
-mod Ends
-mod Gathered
-mod Showing
