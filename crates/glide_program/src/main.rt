@@ -3,11 +3,13 @@
 #![tactic(auto)]
 
 ghost use Rattle.std.specs.Prelude.{◌≡◌, ◌≤◌, map, Err, None, IfOk};
+ghost use Rattle.std.specs.String.{string_bytes};
 ghost use Rattle.glide_run.specs.Settings.{settings};
 ghost use Rattle.glide_run.specs.Promise.{IsOrStops};
 
 use glide_run::glide_alone;
 use outside::{FolderSource, RealInput, RealSink};
+use std::alloc::{AllocError, Global};
 use std::env;
 use std::io::ErrorKind;
 use std::process::ExitCode;
@@ -31,25 +33,34 @@ fn run(rt: &HostRuntime, words: &[&str]) -> u8
     glide_alone(rt.alloc(), words, &mut input, &mut out, &mut source, ()).status
 }
 
+// The words as texts.
+fn texts<'a>(alloc: Global, words: &'a [String]) -> Result<Vec<&'a str>, AllocError>
+    ensures { IfOk result (λ texts. map (λ text. text.now) texts.items ≡ map string_bytes words.now) }
+{
+    let mut texts = Vec::new(alloc);
+    for at in 0..words.len() {
+        texts.push(words[at].as_str())?;
+    }
+    Ok(texts)
+}
+
 // The same with words of their own memory.
 fn run_words(rt: &HostRuntime, words: &[String]) -> u8
     ensures known { result ≤ 6 }
-    ensures refused { settings (map (λ word. word) words.now) ≡ None → IsOrStops 2 result }
+    ensures refused { settings (map string_bytes words.now) ≡ None → IsOrStops 2 result }
 {
-    let mut all = Vec::new(rt.alloc());
-    for word in words {
-        if all.push(word.as_str()).is_err() {
-            return 4;
-        }
+    match texts(rt.alloc(), words) {
+        Ok(texts) => run(rt, &texts),
+        Err(_) => 4,
     }
-    run(rt, &all)
 }
 
 // The same, or the status where the words are not there. Words that cannot be read stand for one that is
 // refused.
 fn status_of(rt: &HostRuntime, words: Result<Vec<String>, WordsFault>) -> u8
     ensures known { result ≤ 6 }
-    ensures refused { IfOk words (λ words. settings (map (λ word. word) words.items) ≡ None → IsOrStops 2 result) }
+    ensures refused { IfOk words (λ words.
+        settings (map string_bytes words.items) ≡ None → IsOrStops 2 result) }
     ensures unreadable { words ≡ Err WordsFault.Unreadable → IsOrStops 2 result }
     ensures memory { words ≡ Err WordsFault.Memory → result ≡ 4 }
 {
