@@ -1,0 +1,96 @@
+-- What holds through each history of the store, and over any list of runs on one folder. It is this project's
+-- own.
+use Rattle.std.specs.Prelude.{◌≡◌, ℕ, zero, suc, List, [], ◌∷◌, ◌++◌, take, Some, None}
+use Rattle.std.specs.declared.option.Option.{Option}
+use Rattle.outside.specs.Content.{Contents}
+use Rattle.outside.specs.Files.{Folder, FolderHistory, last_of, passed_through}
+use Rattle.state_machine.specs.declared.entry.Entry.{Entry}
+use Rattle.state_machine.specs.Legal.{Leads, IsLegal}
+use Rattle.cache_folder.specs.Images.{IfKnown, Runs}
+use Rattle.disk_lru.specs.Staying.{EntryStays}
+use Rattle.store_world.specs.declared.events.Note.{Note}
+use Rattle.store_world.specs.Right.{Pair, OffersRight, HoldsRightIn}
+use Rattle.store_world.specs.World.{World}
+use Rattle.store_world.specs.Steps.{Step}
+use Rattle.store_world.specs.Knowledge.{knowledge_in}
+use Rattle.store_world.specs.Sound.{Sound}
+use Rattle.store_world.specs.StoreMachine.{IsOpening, store_machine}
+use Rattle.store_world.specs.Staying.{MayTake}
+
+-- for each kind of store, by how it shows its worlds and its history
+module _ {M : Type 0} (opening now : M → World) (history : M → List (Entry Note)) where
+  -- Whatever the seats were answered, by entries of which each asked no more than it might, the world is
+  -- sound.
+  abbrev pub AlwaysSound : Type 0
+  AlwaysSound = (content : Option Contents) (before : Option FolderHistory) (w z : World)
+      (past : List (Entry Note)) → IsOpening content before w → HoldsRightIn content before
+      → IsLegal (store_machine opening now history) w past z → Sound z (knowledge_in past)
+
+  -- Where the content is told, each moment since the start was called offers only what is right.
+  abbrev pub AlwaysRight : Type 0
+  AlwaysRight = (content : Contents) (before : Option FolderHistory) (w z : World)
+      (past : List (Entry Note)) → IsOpening (Some content) before w → HoldsRightIn (Some content) before
+      → IsLegal (store_machine opening now history) w past z
+      → IfKnown before (λ h. Runs (OffersRight content) h z.disk.cache.history)
+
+  -- None of these steps may take the entry of the key.
+  abbrev pub NoneTakes : List ℕ → World → List (Entry Note) → Type 0
+  NoneTakes key w later = (xs ys : List (Entry Note)) (e : Entry Note) (between : World)
+      → later ≡ xs ++ e ∷ ys → Leads (store_machine opening now history) w xs between
+      → MayTake key between e.by e.note.event e.note.reply → ⊥
+
+  -- An entry that is offered after a legal history is offered at each moment of each later one none of
+  -- whose steps may take it, and after it.
+  abbrev pub AlwaysOffered : Type 0
+  AlwaysOffered = (content : Option Contents) (before : Option FolderHistory) (w between z : World)
+      (past later : List (Entry Note)) (pair : Pair) → IsOpening content before w
+      → HoldsRightIn content before → IsLegal (store_machine opening now history) w past between
+      → IsLegal (store_machine opening now history) w (past ++ later) z
+      → Leads (store_machine opening now history) between later z → NoneTakes pair.0 between later
+      → EntryStays pair between.disk.cache z.disk.cache
+
+  -- ---- runs
+
+  -- A run on a folder, of any seats, ended or was stopped at any moment, and left this folder.
+  pub record IsRun (content : Contents) (folder left : Folder) : Type 0 where
+    pub before : FolderHistory
+    pub found : before.held ≡ folder
+    pub opened : World
+    pub opens : IsOpening (Some content) (Some before) opened
+    pub past : List (Entry Note)
+    pub ended : World
+    pub legal : IsLegal (store_machine opening now history) opened past ended
+    -- the contents that its files passed through, and after how many of them it was stopped
+    pub contents : List Folder
+    pub history_is : ended.disk.cache.history ≡ Some (passed_through contents before)
+    pub count : ℕ
+    pub left_is : left ≡ last_of folder (take count contents)
+
+  -- so many runs, one after the other
+  abbrev pub AreRuns : Contents → ℕ → Folder → Folder → Type 0
+  AreRuns content zero folder left = left ≡ folder
+  AreRuns content (suc n) folder left =
+      (between : Folder) × IsRun content folder between × AreRuns content n between left
+
+  -- A folder that offers only what is right still does after any number of runs.
+  abbrev pub RunsStayRight : Type 0
+  RunsStayRight = (content : Contents) (n : ℕ) (folder left : Folder) → OffersRight content folder
+      → AreRuns content n folder left → OffersRight content left
+
+-- ---- the same, for each kind of store that is shown somehow
+
+abbrev pub HistoriesAreSound : Type 0 → Type 0
+HistoriesAreSound M =
+    (opening now : M → World) (history : M → List (Entry Note)) → AlwaysSound opening now history
+
+abbrev pub HistoriesAreRight : Type 0 → Type 0
+HistoriesAreRight M =
+    (opening now : M → World) (history : M → List (Entry Note)) → AlwaysRight opening now history
+
+abbrev pub HistoriesKeepEntries : Type 0 → Type 0
+HistoriesKeepEntries M =
+    (opening now : M → World) (history : M → List (Entry Note)) → AlwaysOffered opening now history
+
+abbrev pub FoldersStayRight : Type 0 → Type 0
+FoldersStayRight M =
+    (opening now : M → World) (history : M → List (Entry Note)) → RunsStayRight opening now history

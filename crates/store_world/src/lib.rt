@@ -1,0 +1,7 @@
+//! What the events of the store mean: its state as plain data, one step for each event, and what always holds of it. There is
+//! no code in it but its laws.
+#![tactic(auto)]
+
+mod events;
+
+pub use events::{Chunk, Note, StoreEvent, StoreReply};
