@@ -3,5 +3,7 @@
 #![tactic(auto)]
 
 mod events;
+mod laws;
 
 pub use events::{Chunk, Note, StoreEvent, StoreReply};
+pub use laws::each_event_keeps_sound;
