@@ -1,6 +1,5 @@
 -- What holds of each pair that was offered or kept, and of each that was handed over, holds of each pair that is offered later.
 use Rattle.std.proofs.Common.{◌≡◌, Bool, true, false, ◌&&◌, ◌||◌, List, [], ◌∷◌, ◌++◌, Some, None, refl, sym, ap, subst, ◌∙◌}
-use Rattle.std.specs.Prelude.{ℕ}
 use Rattle.std.specs.declared.option.Option.{Option}
 use Rattle.std.specs.List.{AllByRecursion}
 use Rattle.std.specs.Str.{bytes_eq}
@@ -11,10 +10,10 @@ use Rattle.cache_folder.specs.Offered.{offered}
 use Rattle.cache_folder.specs.Images.{IfKnown, Runs}
 use Rattle.cache_folder.specs.Sound.{listed}
 use Rattle.cache_folder.specs.Allowed.{Pass, IsWithin, values_of, handed_by}
-use Rattle.disk_lru.specs.State.{CacheState, entries}
+use Rattle.disk_lru.specs.State.{entries}
 use Rattle.disk_lru.specs.Calls.{Steps, StaysWithin, Passage}
 use Rattle.disk_lru.specs.Past.{DiskState, is_pair, is_among}
-use Rattle.store_world.specs.Right.{Pair, IsRight, AreRight, OffersRight, HoldsRight}
+use Rattle.store_world.specs.Right.{Pair, IsRight, AreRight, OffersRight}
 use Rattle.store_world.specs.Sound.{IsRightDisk, IsRightStore}
 use Rattle.store_world.specs.Laws.{PassesRight}
 use Rattle.store_world.proofs.Tables.{same_if, true_if}
@@ -121,11 +120,11 @@ pub all_among : (xs : List Pair) → AllByRecursion (λ p. is_among xs p ≡ tru
 all_among [] = tt
 all_among (x ∷ xs) = (ap (λ b. b || is_among xs x) (same_self x), weaken _ _ (λ p h. or_right (is_pair p x) (is_among xs p) h) xs (all_among xs))
 
-all_front : {X : Type 0} (P : X → Type 0) (xs ys : List X) → AllByRecursion P (xs ++ ys) → AllByRecursion P xs
+pub all_front : {X : Type 0} (P : X → Type 0) (xs ys : List X) → AllByRecursion P (xs ++ ys) → AllByRecursion P xs
 all_front P [] ys h = tt
 all_front P (x ∷ xs) ys h = (h.0, all_front P xs ys h.1)
 
-all_back : {X : Type 0} (P : X → Type 0) (xs ys : List X) → AllByRecursion P (xs ++ ys) → AllByRecursion P ys
+pub all_back : {X : Type 0} (P : X → Type 0) (xs ys : List X) → AllByRecursion P (xs ++ ys) → AllByRecursion P ys
 all_back P [] ys h = h
 all_back P (x ∷ xs) ys h = all_back P xs ys h.1
 
@@ -161,9 +160,10 @@ pub right_stays : (content : Contents) (handed : Handed) (old new : DiskState) �
     → IsRightDisk content new × PassesRight content old new
 right_stays content handed old new allows right given =
     let h = right.holds.history in
-    let all = allowed_facts (IsRight content) handed old new allows h right.holds.known right.holds.right right.keeps given in
-    (record { holds = record { history = passed_through all.moments.contents h; known = all.moments.after_is; right = all.moments.here }; keeps = all.keeps },
-      λ k known. subst (λ (j : FolderHistory). Runs (OffersRight content) j new.cache.history) (some_folder h k (sym right.holds.known ∙ known)) all.moments)
+    let all = allowed_facts (IsRight content) handed old new allows h right.holds.known right.holds.right right.keeps given in (
+      record { holds = record { history = passed_through all.moments.contents h; known = all.moments.after_is; right = all.moments.here }; keeps = all.keeps },
+      λ k known. subst (λ (j : FolderHistory). Runs (OffersRight content) j new.cache.history) (some_folder h k (sym right.holds.known ∙ known)) all.moments,
+    )
 
 pub right_kept : (content : Option Contents) (old new : DiskState) → Allows nothing_handed old new → IsRightStore content old → IsRightStore content new
 right_kept None old new allows right = tt

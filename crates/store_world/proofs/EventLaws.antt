@@ -1,17 +1,16 @@
 -- Each event keeps what is sound.
 use Rattle.std.proofs.Common.{◌≡◌, ℕ, ◌+◌, ◌<◌, Bool, true, false, List, [], ◌∷◌, ◌++◌, length, Some, None, Ok, Err, Result, refl, sym, ap, subst, ◌∙◌}
-use Rattle.std.specs.Prelude.{⊤, is_some, IsSomeAnd, unwrap_or}
+use Rattle.std.specs.Prelude.{⊤, is_some, IsSomeAnd}
 use Rattle.std.specs.declared.option.Option.{Option}
 use Rattle.std.specs.Option.{option_map}
 use Rattle.std.specs.FinMap.{get}
 use Rattle.std.proofs.lemmas.List.{length-append}
 use Rattle.outside.specs.Content.{Contents}
 use Rattle.outside.specs.Files.{Folder, FolderHistory}
-use Rattle.disk_table.specs.UseOrder.{without}
 use Rattle.disk_table.specs.Table.{edit_of}
 use Rattle.cache_folder.specs.Offered.{edit_name}
 use Rattle.cache_folder.specs.Images.{IfKnown}
-use Rattle.cache_folder.specs.Tables.{edit_at, len_at, is_offered, aborted}
+use Rattle.cache_folder.specs.Tables.{edit_at, len_at, is_offered}
 use Rattle.cache_folder.specs.Sound.{text_at, abort_step}
 use Rattle.cache_folder.specs.Allowed.{Pass, handed_by}
 use Rattle.disk_lru.specs.declared.refusals.DiskFault.{DiskFault}
@@ -24,18 +23,17 @@ use Rattle.store_world.specs.declared.events.StoreReply.{StoreReply}
 use Rattle.store_world.specs.declared.events.StoreReply.TheVariants as replies
 use Rattle.store_world.specs.Right.{IsRightIn}
 use Rattle.store_world.specs.World.{SeatEdit, Request, World, request_of, without_seat, has_lock_by, has_lock}
-use Rattle.store_world.specs.DiskCalls.{Gets, Begins, Writes, Commits, Aborts, EvictsAll}
-use Rattle.store_world.specs.Steps.{IsOutcome, with_disk, with_requests, with_own, with_own_on, new_request, granted, begun_with, with_edit, new_edit, more_written, closed_edit, done, fetched, Fetch, is_too_large, want, ask_granted, begun_edit, BeginAfter, Begin, edit_after, Write, CommitAfter, Commit, GiveUp, WithEdit, Transition}
+use Rattle.store_world.specs.DiskCalls.{Begins, Writes, Commits, Aborts}
+use Rattle.store_world.specs.Steps.{IsOutcome, with_disk, with_requests, with_own, with_own_on, new_request, granted, begun_with, with_edit, new_edit, more_written, closed_edit, done, fetched, Fetch, is_too_large, want, ask_granted, begun_edit, BeginAfter, Begin, edit_after, Write, CommitAfter, Commit, GiveUp, WithEdit}
 use Rattle.store_world.specs.Knowledge.{Knowledge, updated, knowledge_with}
-use Rattle.store_world.specs.Permits.{HasEdit, Permits}
-use Rattle.store_world.specs.Sound.{seat_count, IsHolding, open_length_by, open_length, open_at, HasFile, IsRightStore, Sound}
+use Rattle.store_world.specs.Sound.{seat_count, IsHolding, open_length_by, open_length, HasFile, IsRightStore, Sound}
 use Rattle.store_world.specs.Laws.{KeepsSound}
 use Rattle.store_world.proofs.Tables.{Moved, moved_same, moved_newest, moved_without, moved_grown, moved_aborted}
 use Rattle.store_world.proofs.Queues.{First, first_of_granted, open_of_first, as_same, found_request}
 use Rattle.store_world.proofs.Numbers.{Renumbered, renumbered_same, renumbered_closed, renumbered_begun}
-use Rattle.store_world.proofs.Allowed.{Handed, nothing_handed, Allows, allows_passage, right_stays, right_kept}
+use Rattle.store_world.proofs.Allowed.{nothing_handed, Allows, allows_passage, right_stays, right_kept}
 use Rattle.store_world.proofs.Quiet.{got, evicted}
-use Rattle.store_world.proofs.Moves.{CallMoves, moves, UnderEdit, under_edit, open_granted, open_is, by_first, by_quiet, by_nothing, by_want, by_leaving}
+use Rattle.store_world.proofs.Moves.{CallMoves, moves, open_granted, open_is, by_first, by_quiet, by_nothing, by_want, by_leaving}
 
 from_outcome : (known : ℕ → Knowledge) (who : ℕ) (event : StoreEvent) (answer reply : StoreReply) (left z : World) → IsOutcome reply z (answer, left)
     → Sound left (knowledge_with known who event answer) → Sound z (knowledge_with known who event reply)
@@ -81,7 +79,7 @@ want_law key length payload w z known who reply small s permits does =
 -- ---- an event of a seat with a request
 
 -- what the table has of the first's key is its open edit
-length_of_first : (w : World) (known : ℕ → Knowledge) (who : ℕ) (request : Request) → Sound w known → request_of who w.requests ≡ Some request → First who request.key w.requests
+pub length_of_first : (w : World) (known : ℕ → Knowledge) (who : ℕ) (request : Request) → Sound w known → request_of who w.requests ≡ Some request → First who request.key w.requests
     → edit_at request.key (entries w.disk.cache) ≡ open_length request.edit
 length_of_first w known who request s at first = s.edits_agree.lengths request.key ∙ open_of_first who request w.requests at first
 
@@ -164,8 +162,8 @@ begun_by (Ok edit) w z known who reply request d s knows at first g none begins 
     (renumbered_begun request.key edit w.disk.cache d.cache begins.key_is begins.open_ closed begins.free begins.edits_are))
     (λ k is own has open_. begins.empty refl k is ∙ written own has)
     (right_kept w.content w.disk d (allows_passage (begin_steps request.key) w.disk d makes.call.passage) s.right) (ap (option_map (begun_with (Some new_edit))) knows)) where
-  written : (own : SeatEdit) → Some new_edit ≡ Some own → [] ≡ own.written
-  written own e = let same : new_edit ≡ own = cc in ap (λ (x : SeatEdit). x.written) same
+      written : (own : SeatEdit) → Some new_edit ≡ Some own → [] ≡ own.written
+      written own e = let same : new_edit ≡ own = cc in ap (λ (x : SeatEdit). x.written) same
 begun_by (Err fault) w z known who reply request d s knows at first g none begins by =
     let request' = begun_with None request in
     let fails = begins.fails refl in
@@ -224,8 +222,8 @@ written_by (Ok x) bytes w z known who reply request edit d s knows at first g ho
     writes.text refl before.0 before.1 k is ∙ ap (λ (t : List ℕ). t ++ bytes) file ∙ written own own_is)
     (right_kept w.content w.disk d (allows_passage no_steps w.disk d makes.call.passage) s.right)
     (ap (option_map (λ (r : Request). with_edit (option_map (more_written bytes) r.edit) r)) knows ∙ ap (λ e. Some (with_edit (option_map (more_written bytes) e) request)) has)) where
-  written : (own : SeatEdit) → Some (more_written bytes edit) ≡ Some own → edit.written ++ bytes ≡ own.written
-  written own e = let same : more_written bytes edit ≡ own = cc in ap (λ (x : SeatEdit). x.written) same
+      written : (own : SeatEdit) → Some (more_written bytes edit) ≡ Some own → edit.written ++ bytes ≡ own.written
+      written own e = let same : more_written bytes edit ≡ own = cc in ap (λ (x : SeatEdit). x.written) same
 written_by (Err fault) bytes w z known who reply request edit d s knows at first g holding has open_ writes by =
     let request' = with_edit (Some (closed_edit edit)) request in
     let fails = writes.fails refl in
@@ -299,7 +297,6 @@ abort_moves (Ok x) key w known d s a =
     (subst (Moved key None (entries w.disk.cache)) (sym (a.ok refl)) (moved_aborted key (len_at key (entries w.disk.cache)) (entries w.disk.cache) s.once))
     (renumbered_closed key w.disk.cache d.cache a.edit)
 abort_moves (Err fault) key w known d s a = failed_moves key (abort_steps key w.disk.cache) w known d s (a.fails refl)
-
 
 -- a step of an edit that is given up hands nothing over
 gives_nothing : (allowed : List ℕ × List ℕ → Bool) (key : List ℕ) (len : Option ℕ) → Pass allowed (handed_by (abort_step len key ∷ []))

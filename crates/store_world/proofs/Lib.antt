@@ -5,3 +5,4 @@ pub mod Allowed
 pub mod Quiet
 pub mod Moves
 pub mod EventLaws
+pub mod Entries

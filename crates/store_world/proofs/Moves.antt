@@ -1,12 +1,10 @@
 -- What each event's step leaves is sound.
-use Rattle.std.proofs.Common.{◌≡◌, ◌≢◌, ℕ, ◌+◌, ◌<◌, Bool, true, false, cond, eqb, List, [], ◌∷◌, ◌++◌, length, Some, None, refl, sym, ap, subst, ◌∙◌, arith}
+use Rattle.std.proofs.Common.{◌≡◌, ◌≢◌, ℕ, ◌<◌, true, false, cond, eqb, List, [], ◌∷◌, ◌++◌, length, Some, None, refl, sym, ap, subst, ◌∙◌, arith}
 use Rattle.std.specs.Prelude.{is_some, IsSome, unwrap_or}
 use Rattle.std.specs.declared.option.Option.{Option}
 use Rattle.std.specs.FinMap.{get}
 use Rattle.std.specs.Str.{bytes_eq}
 use Rattle.std.proofs.lemmas.Bool.{eqb-true, eq-eqb}
-use Rattle.outside.specs.Files.{Folder}
-use Rattle.disk_table.specs.UseOrder.{IsOnce}
 use Rattle.disk_table.specs.Table.{edit_of}
 use Rattle.cache_folder.specs.Offered.{edit_name}
 use Rattle.cache_folder.specs.Images.{IfKnown, WasKnown}
@@ -19,7 +17,7 @@ use Rattle.store_world.specs.declared.events.StoreReply.{StoreReply}
 use Rattle.store_world.specs.World.{SeatEdit, Request, Requests, World, queue_of, request_of, with_request, without_seat}
 use Rattle.store_world.specs.Steps.{with_own_on, with_disk, with_requests, new_request}
 use Rattle.store_world.specs.Knowledge.{Knowledge, updated, knowledge_with}
-use Rattle.store_world.specs.Sound.{one_if, seat_count, taken, IsHolding, open_length_by, open_length, open_at, open_count, EditsAgree, HasFile, IsRightStore, Sound}
+use Rattle.store_world.specs.Sound.{one_if, seat_count, taken, IsHolding, open_length_by, open_length, open_at, EditsAgree, HasFile, IsRightStore, Sound}
 use Rattle.store_world.proofs.Tables.{Moved, same_if, ne_if}
 use Rattle.store_world.proofs.Numbers.{Renumbered}
 use Rattle.store_world.proofs.Queues.{First, Opened, opened_as, first_of_granted, open_of_first, orderly_as, seated_as, seats_as, all_as, at_as, at_as_other, at_last, all_seats_last, seated_last, orderly_last, open_last, count_last, all_without, seated_without, orderly_without, at_without, at_without_other, open_without, count_without, first_is_one, found_request, some_is}

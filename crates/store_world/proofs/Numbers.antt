@@ -1,8 +1,7 @@
 -- The numbers of open edits under the changes that calls make.
-use Rattle.std.proofs.Common.{◌≡◌, ◌≢◌, ℕ, zero, suc, ◌+◌, ◌<◌, Bool, true, false, cond, List, [], ◌∷◌, length, Some, None, refl, sym, ap, subst, ◌∙◌, arith}
+use Rattle.std.proofs.Common.{◌≡◌, ◌≢◌, ℕ, zero, suc, ◌+◌, ◌<◌, Bool, true, cond, List, [], ◌∷◌, length, Some, None, refl, sym, ap, subst, ◌∙◌, arith}
 use Rattle.std.specs.Prelude.{is_some, not, set, get_or, position, nat_lt}
 use Rattle.std.specs.declared.option.Option.{Option}
-use Rattle.std.specs.Str.{bytes_eq}
 use Rattle.std.proofs.lemmas.List.{length-set}
 use Rattle.std.proofs.lemmas.List.Folds.{position_or_len-set}
 use Rattle.std.proofs.lemmas.List.Quantifiers.{position-Some}
@@ -66,6 +65,12 @@ not_some : (edit : Option (List ℕ)) → not (is_some edit) ≡ true → edit �
 not_some None e = refl
 not_some (Some key) e = cc
 
+pub begun_others : (key : List ℕ) (n : ℕ) (old new : List (Option (List ℕ))) → free_edit old ≡ Some n → new ≡ set old n (Some key) → (other : List ℕ) → other ≢ key → edit_of other new ≡ edit_of other old
+begun_others key n old new free is other ne =
+    let at = position-Some (λ (e : Option (List ℕ)). not (is_some e)) old n None free in
+    let none = not_some (get_or old n None) at.1 in
+    ap (edit_of other) is ∙ position_set (is_edit_of other) old n (Some key) None (false_if key other (λ same. ne (sym same)) ∙ sym (ap (is_edit_of other) none))
+
 pub renumbered_begun : (key : List ℕ) (edit : EditValue) (old new : CacheState) → edit.key ≡ key → IsOpen edit new → edit_of key (edits old) ≡ None → free_edit (edits old) ≡ Some edit.number
     → edits new ≡ set (edits old) edit.number (Some key) → Renumbered key (Some 0) (edits old) (edits new)
 renumbered_begun key edit old new key_is is_open closed free edits_are =
@@ -73,8 +78,7 @@ renumbered_begun key edit old new key_is is_open closed free edits_are =
     let none = not_some (get_or (edits old) edit.number None) at.1 in
     record {
       here = ap is_some (subst (λ k. edit_of k (edits new) ≡ Some edit.number) key_is is_open.1);
-      others = λ other ne. ap (edit_of other) edits_are
-          ∙ position_set (is_edit_of other) (edits old) edit.number (Some key) None (false_if key other (λ same. ne (sym same)) ∙ sym (ap (is_edit_of other) none));
+      others = begun_others key edit.number (edits old) (edits new) free edits_are;
       count = omega (arith, ap taken edits_are, taken_set (edits old) edit.number (Some key) at.0, ap (λ (e : Option (List ℕ)). one_if (is_some e)) none, ap (λ (e : Option ℕ). one_if (is_some e)) closed);
       places = ap length edits_are ∙ length-set (edits old) edit.number (Some key);
     }

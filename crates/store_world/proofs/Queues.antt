@@ -6,7 +6,7 @@ use Rattle.std.specs.List.{AllByRecursion}
 use Rattle.std.specs.Str.{bytes_eq}
 use Rattle.std.proofs.lemmas.Bool.{eqb-true, eq-eqb}
 use Rattle.store_world.specs.World.{Request, Requests, queue_of, request_of, with_request, without_seat, is_first}
-use Rattle.store_world.specs.Sound.{one_if, seat_count, IsSeated, IsOrderly, IsHolding, open_length, open_at, open_count}
+use Rattle.store_world.specs.Sound.{one_if, IsSeated, IsOrderly, IsHolding, open_length, open_at, open_count}
 use Rattle.store_world.proofs.Tables.{same_if, true_if, false_if, ne_if}
 
 pub some_is : {A : Type 0} (a b : A) → Some a ≡ Some b → a ≡ b

@@ -6,17 +6,17 @@ use Rattle.std.specs.Option.{option_map}
 use Rattle.std.specs.FinMap.{get}
 use Rattle.std.specs.Str.{bytes_eq}
 use Rattle.outside.specs.Files.{FolderHistory}
-use Rattle.disk_table.specs.UseOrder.{Entries, IsOnce, without, used, value_at}
+use Rattle.disk_table.specs.UseOrder.{Entries, IsOnce, without, value_at}
 use Rattle.disk_table.specs.Table.{edit_of}
 use Rattle.cache_folder.specs.Offered.{edit_name}
 use Rattle.cache_folder.specs.Images.{IfKnown, WasKnown}
 use Rattle.cache_folder.specs.Tables.{Kept, Table, mapped, kept_by, edit_at, len_at, is_offered, closed_at}
 use Rattle.disk_lru.specs.declared.refusals.DiskFault.{DiskFault}
-use Rattle.disk_lru.specs.State.{CacheState, entries, edits}
+use Rattle.disk_lru.specs.State.{entries, edits}
 use Rattle.disk_lru.specs.Calls.{Steps, CallOn, use_steps, drop_steps}
 use Rattle.disk_lru.specs.Past.{DiskState}
 use Rattle.disk_lru.specs.Trims.{Trims}
-use Rattle.store_world.specs.DiskCalls.{UnchangedDisk, Gets, next_eviction, Evicts, EvictsTo, EndsEvicting, EvictsAll}
+use Rattle.store_world.specs.DiskCalls.{Gets, next_eviction, Evicts, EvictsTo, EndsEvicting, EvictsAll}
 use Rattle.store_world.specs.Sound.{keys_under_edit}
 use Rattle.store_world.proofs.Tables.{Moved, moved_without, moved_used, same_if, ne_if, unsome}
 use Rattle.store_world.proofs.Allowed.{Allows, nothing_handed, allows_then, allows_same, allows_passage}
@@ -135,7 +135,7 @@ got key old new (Err fault) o closed g =
 -- ---- evictions
 
 -- a key of no open edit has none in the table
-closed_kept : (key : List ℕ) (es : List (Option (List ℕ))) (written : List ℕ) (t : Entries (Option ℕ)) → edit_of key es ≡ None → edit_at key (mapped (kept_by es written) t) ≡ None
+pub closed_kept : (key : List ℕ) (es : List (Option (List ℕ))) (written : List ℕ) (t : Entries (Option ℕ)) → edit_of key es ≡ None → edit_at key (mapped (kept_by es written) t) ≡ None
 closed_kept key es written [] none = refl
 closed_kept key es written (e ∷ t) none = elim (bytes_eq key e.0) as (λ b. bytes_eq key e.0 ≡ b → option_and_then (λ (k : Kept). k.edit) (cond b (Some (kept_by es written e.0 e.1)) (value_at key (mapped (kept_by es written) t))) ≡ None) [
   | true ↦ λ is. subst (λ k. (kept_by es written k e.1).edit ≡ None) (sym (same_if e.0 key is)) (ap (option_map (λ number. get_or written number 0)) none)
@@ -167,7 +167,7 @@ evicted_failed key fault old new is e =
       allows = allows_passage (drop_steps key) old new stays.passage;
     }
 
-some_next : {X : Type 0} (o : Option X) → IsSome o → (x : X) × (o ≡ Some x)
+pub some_next : {X : Type 0} (o : Option X) → IsSome o → (x : X) × (o ≡ Some x)
 some_next None h = let bad = h in cc
 some_next (Some x) h = (x, refl)
 
@@ -183,3 +183,15 @@ evicted_to (key ∷ gone) old new o e =
 
 pub evicted : (gone : List (List ℕ)) (old new : DiskState) (result : Result ⊤ DiskFault) → IsOnce (entries old.cache) → EvictsAll gone old result new → QuietCall old new
 evicted gone old new result o e = quiet_then old e.last new (evicted_to gone old e.last o e.evicts) (ended e.last new result e.ends)
+
+-- ---- what evictions offer
+
+one_allows : (key : List ℕ) (old new : DiskState) → next_eviction old ≡ Some key → Evicts old (Ok true) new → Allows nothing_handed old new
+one_allows key old new is e = allows_passage (drop_steps key) old new ((evicted_key key old new (Ok true) is e).makes refl).call.passage
+
+to_allows : (gone : List (List ℕ)) (old new : DiskState) → EvictsTo gone old new → Allows nothing_handed old new
+to_allows [] old new e = (quiet_same old new e).allows
+to_allows (key ∷ gone) old new e = allows_then nothing_handed old e.0 new (one_allows key old e.0 e.1 e.2) (to_allows gone e.0 new e.3)
+
+pub evicted_allows : (gone : List (List ℕ)) (old new : DiskState) (result : Result ⊤ DiskFault) → EvictsAll gone old result new → Allows nothing_handed old new
+evicted_allows gone old new result e = allows_then nothing_handed old e.last new (to_allows gone old e.last e.evicts) (ended e.last new result e.ends).allows

@@ -1,6 +1,6 @@
 -- The edits of a table under the changes that calls make.
 use Rattle.std.proofs.Common.{◌≡◌, ◌≢◌, ℕ, ◌+◌, true, false, cond, List, [], ◌∷◌, ◌++◌, Some, None, refl, sym, ap, subst, ◌∙◌, arith}
-use Rattle.std.specs.Prelude.{is_some, IsSome, option_and_then}
+use Rattle.std.specs.Prelude.{is_some, option_and_then}
 use Rattle.std.specs.declared.option.Option.{Option}
 use Rattle.std.specs.List.{AllByRecursion}
 use Rattle.std.specs.Str.{bytes_eq}
@@ -190,4 +190,3 @@ moved_grown key n m t o is = record {
   once = grown_once key n t o;
   count = omega (arith, grown_count key n m t o is, ap (λ x. one_if (is_some x)) is);
 }
-

@@ -1,10 +1,10 @@
 -- What the store needs of the calls of its disk cache: the clauses of each call, over its state before and
 -- after. The calls are DiskLruCache's, and the clauses those of disk_lru.
-use Rattle.std.specs.Prelude.{◌≡◌, ℕ, ◌+◌, ◌<◌, ◌^◌, Bool, true, false, List, [], ◌∷◌, ◌++◌, length, set, Some, None, Ok, Err, Result, IfOk, IfSome, IsOk, IsErr, IsSome, is_err, is_some, if◌then◌else◌, ⊤}
+use Rattle.std.specs.Prelude.{◌≡◌, ℕ, ◌+◌, Bool, true, false, List, [], ◌∷◌, ◌++◌, length, set, Some, None, Ok, Err, Result, IfOk, IfSome, IsOk, IsErr, IsSome, is_err, is_some, if◌then◌else◌, ⊤}
 use Rattle.std.specs.declared.option.Option.{Option}
 use Rattle.std.specs.FinMap.{get}
 use Rattle.outside.specs.Causes.{HasCause}
-use Rattle.disk_table.specs.UseOrder.{without, used}
+use Rattle.disk_table.specs.UseOrder.{used}
 use Rattle.disk_table.specs.Table.{free_edit, eldest_over}
 use Rattle.cache_folder.specs.Offered.{value_name, edit_name}
 use Rattle.cache_folder.specs.Steps.{answer_at}
@@ -14,7 +14,7 @@ use Rattle.cache_folder.specs.Sound.{text_at}
 use Rattle.disk_lru.specs.declared.refusals.DiskFault.{DiskFault}
 use Rattle.disk_lru.specs.declared.refusals.DiskFault.TheVariants as faults
 use Rattle.disk_lru.specs.State.{EditValue, entries, edits, list_of, IsOpen}
-use Rattle.disk_lru.specs.Calls.{Steps, no_steps, begin_steps, commit_steps, abort_steps, use_steps, Makes, Fails, ClosesEdit, Unchanged}
+use Rattle.disk_lru.specs.Calls.{Steps, no_steps, begin_steps, commit_steps, abort_steps, use_steps, Makes, Fails, ClosesEdit}
 use Rattle.disk_lru.specs.Faults.{get_acts, trim_acts}
 use Rattle.disk_lru.specs.Trims.{Trims}
 use Rattle.disk_lru.specs.Staying.{HasEntry}

@@ -1,6 +1,6 @@
 -- What holds through each history of the store, and over any list of runs on one folder. It is this project's
 -- own.
-use Rattle.std.specs.Prelude.{◌≡◌, ℕ, zero, suc, List, [], ◌∷◌, ◌++◌, take, Some, None}
+use Rattle.std.specs.Prelude.{◌≡◌, ℕ, zero, suc, List, ◌∷◌, ◌++◌, take, Some}
 use Rattle.std.specs.declared.option.Option.{Option}
 use Rattle.outside.specs.Content.{Contents}
 use Rattle.outside.specs.Files.{Folder, FolderHistory, last_of, passed_through}
@@ -11,7 +11,6 @@ use Rattle.disk_lru.specs.Staying.{EntryStays}
 use Rattle.store_world.specs.declared.events.Note.{Note}
 use Rattle.store_world.specs.Right.{Pair, OffersRight, HoldsRightIn}
 use Rattle.store_world.specs.World.{World}
-use Rattle.store_world.specs.Steps.{Step}
 use Rattle.store_world.specs.Knowledge.{knowledge_in}
 use Rattle.store_world.specs.Sound.{Sound}
 use Rattle.store_world.specs.StoreMachine.{IsOpening, store_machine}

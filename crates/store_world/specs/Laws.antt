@@ -1,10 +1,9 @@
 -- What holds of each event of the store. It is this project's own.
-use Rattle.std.specs.Prelude.{◌≡◌, ◌≢◌, ℕ, ◌<◌, ◌≤◌, Bool, true, false, List, [], ◌∷◌, length, Some, None, Ok, Result, ⊤}
+use Rattle.std.specs.Prelude.{◌≡◌, ◌≢◌, ℕ, ◌<◌, ◌≤◌, Bool, true, false, List, [], ◌∷◌, ◌++◌, length, Some, None, Ok, Result, ⊤}
 use Rattle.std.specs.declared.option.Option.{Option}
 use Rattle.std.specs.List.{list_any}
 use Rattle.std.specs.Str.{bytes_eq}
 use Rattle.outside.specs.Content.{Contents}
-use Rattle.outside.specs.Files.{Folder}
 use Rattle.disk_table.specs.Table.{edit_of, is_full_for}
 use Rattle.cache_folder.specs.Images.{IfKnown, Runs}
 use Rattle.cache_folder.specs.Allowed.{Pass, IsWithin}
@@ -20,7 +19,7 @@ use Rattle.store_world.specs.declared.events.StoreReply.{StoreReply}
 use Rattle.store_world.specs.declared.events.StoreReply.TheVariants as replies
 use Rattle.store_world.specs.Right.{Pair, IsRight, OffersRight}
 use Rattle.store_world.specs.World.{SeatEdit, Request, World, request_of}
-use Rattle.store_world.specs.DiskCalls.{next_eviction, EvictsTo, EndsEvicting, EvictsAll}
+use Rattle.store_world.specs.DiskCalls.{next_eviction, Evicts, EvictsTo, EvictsAll}
 use Rattle.store_world.specs.Steps.{Transition}
 use Rattle.store_world.specs.Knowledge.{Knowledge, knowledge_with}
 use Rattle.store_world.specs.Permits.{MayBegin, HasOpenEdit, Permits}
@@ -165,5 +164,6 @@ RoomKeeps = (old new : DiskState) (gone : List (List ℕ)) (result : Result ⊤ 
 
 -- One eviction more.
 abbrev pub EvictsOneMore : Type 0
-EvictsOneMore = (gone : List (List ℕ)) (old between new : DiskState) → EvictsTo gone old between
-    → EndsEvicting between (Ok tt) new → EvictsAll gone old (Ok tt) new
+EvictsOneMore = (gone : List (List ℕ)) (key : List ℕ) (old between new : DiskState)
+    → EvictsTo gone old between → next_eviction between ≡ Some key → Evicts between (Ok true) new
+    → EvictsTo (gone ++ key ∷ []) old new

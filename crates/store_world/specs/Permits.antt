@@ -1,6 +1,6 @@
 -- What an event asks of what its caller knows, and of the content. That a caller keeps to what it was told
 -- is this project's own.
-use Rattle.std.specs.Prelude.{◌≡◌, ℕ, ◌+◌, ◌<◌, ◌^◌, true, false, List, length, Some, None, ⊤}
+use Rattle.std.specs.Prelude.{◌≡◌, ◌+◌, ◌<◌, ◌^◌, true, false, length, Some, None, ⊤}
 use Rattle.std.specs.declared.option.Option.{Option}
 use Rattle.outside.specs.Content.{Contents}
 use Rattle.store_world.specs.declared.events.StoreEvent.{StoreEvent}

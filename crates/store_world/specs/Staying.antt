@@ -1,7 +1,5 @@
 -- How long an entry is offered: until an eviction chooses it, or a read of it fails. It is this project's own.
-use Rattle.std.specs.Prelude.{◌≡◌, ◌⊎◌, ℕ, true, List, [], ◌∷◌, ◌++◌, Some, Ok}
-use Rattle.std.specs.declared.option.Option.{Option}
-use Rattle.state_machine.specs.declared.entry.Entry.{Entry}
+use Rattle.std.specs.Prelude.{◌≡◌, ◌⊎◌, ℕ, List, Some, Ok}
 use Rattle.disk_lru.specs.declared.refusals.DiskFault.{DiskFault}
 use Rattle.disk_lru.specs.Past.{DiskState}
 use Rattle.disk_lru.specs.Staying.{EntryStays}
@@ -9,11 +7,10 @@ use Rattle.store_world.specs.declared.events.StoreEvent.{StoreEvent}
 use Rattle.store_world.specs.declared.events.StoreEvent.TheVariants as events
 use Rattle.store_world.specs.declared.events.StoreReply.{StoreReply}
 use Rattle.store_world.specs.declared.events.StoreReply.TheVariants as replies
-use Rattle.store_world.specs.declared.events.Note.{Note}
 use Rattle.store_world.specs.Right.{Pair}
 use Rattle.store_world.specs.World.{Request, World, request_of}
 use Rattle.store_world.specs.DiskCalls.{Commits, next_eviction, EvictsTo}
-use Rattle.store_world.specs.Steps.{Transition, Step}
+use Rattle.store_world.specs.Steps.{Transition}
 use Rattle.store_world.specs.Knowledge.{Knowledge}
 use Rattle.store_world.specs.Permits.{Permits}
 use Rattle.store_world.specs.Sound.{Sound}

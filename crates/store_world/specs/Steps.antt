@@ -178,7 +178,7 @@ Transition w who events.Granted reply z =
     WithRequest w who (λ request. IsOutcome reply z (ask_granted w who (has_lock who w.requests) request))
 Transition w who events.Begin reply z =
     WithRequest w who (λ request.
-        Begin (is_offered request.key (entries w.disk.cache)) w who request reply z)
+    Begin (is_offered request.key (entries w.disk.cache)) w who request reply z)
 Transition w who (events.Write bytes) reply z =
     WithEdit w who (λ request edit. Write w who request edit bytes reply z)
 Transition w who events.Commit reply z = WithEdit w who (λ request edit. Commit w who request reply z)

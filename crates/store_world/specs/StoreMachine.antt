@@ -1,8 +1,7 @@
 -- The store as a machine whose callers take turns: its worlds, its seats, what an event asks of them, its
 -- steps, and what it opens with. It is this project's own.
-use Rattle.std.specs.Prelude.{◌≡◌, ℕ, false, List, [], None}
+use Rattle.std.specs.Prelude.{◌≡◌, ℕ, false, List, []}
 use Rattle.std.specs.declared.option.Option.{Option}
-use lib.ListN.{replicate}
 use Rattle.outside.specs.Content.{Contents}
 use Rattle.outside.specs.Files.{FolderHistory}
 use Rattle.state_machine.specs.declared.entry.Entry.{Entry}
@@ -11,7 +10,7 @@ use Rattle.disk_table.specs.UseOrder.{IsOnce}
 use Rattle.disk_table.specs.Table.{no_entries}
 use Rattle.cache_folder.specs.Offered.{offered}
 use Rattle.cache_folder.specs.Images.{IfKnown, WasKnown}
-use Rattle.cache_folder.specs.Tables.{CacheTableValue, edit_at}
+use Rattle.cache_folder.specs.Tables.{CacheTableValue}
 use Rattle.cache_folder.specs.Sound.{listed}
 use Rattle.cache_folder.specs.Starts.{HasNoEdits}
 use Rattle.cache_folder.specs.Allowed.{Pass, values_of}
@@ -51,7 +50,6 @@ pub record IsOpening (content : Option Contents) (before : Option FolderHistory)
   pub content_is : w.content ≡ content
   pub no_requests : w.requests ≡ []
   pub free : HasNoEdits w.disk.cache.table
-  pub closed : (key : List ℕ) → edit_at key (entries w.disk.cache) ≡ None
   pub once : IsOnce (entries w.disk.cache)
   pub known : WasKnown before w.disk.cache.history
   pub moments : OffersNoMore before w.disk.cache.history

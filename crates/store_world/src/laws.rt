@@ -1,6 +1,45 @@
 // The laws of the store's world, each as the contract of a function that does nothing.
+ghost use Rattle.std.specs.Prelude.{◌≡◌, ℕ, ◌<◌, ◌^◌, List, length, Some};
+ghost use Rattle.std.specs.declared.option.Option.{Option};
+ghost use Rattle.outside.specs.Content.{Contents};
+ghost use Rattle.outside.specs.Files.{FolderHistory};
+ghost use Rattle.cache_key.specs.declared.bytes.Which.{Which};
+ghost use Rattle.cache_key.specs.Key.{Key, IsKey};
 ghost use Rattle.store_world.specs.declared.events.StoreEvent.{StoreEvent};
-ghost use Rattle.store_world.specs.Laws.{KeepsSound};
+ghost use Rattle.store_world.specs.Envelopes.{envelope, payload_of};
+ghost use Rattle.store_world.specs.Right.{IsPayload, entry_of, IsRight, HoldsRightIn};
+ghost use Rattle.store_world.specs.World.{World};
+ghost use Rattle.store_world.specs.Knowledge.{no_knowledge};
+ghost use Rattle.store_world.specs.Sound.{Sound};
+ghost use Rattle.store_world.specs.StoreMachine.{IsOpening};
+ghost use Rattle.store_world.specs.Laws.{KeepsSound, KeepsSettings, KeepsNumbers, HoldersBegin, HoldersWrite, RequestsAreFew, OneMoreFits, OneHolder, KeepsWithin, KeepsRight, FetchesRight, CommitStores, RoomKeeps, EvictsOneMore};
+ghost use Rattle.store_world.specs.Staying.{KeepsEntries};
+ghost use Rattle.store_world.specs.Histories.{HistoriesAreSound, HistoriesAreRight, HistoriesKeepEntries, FoldersStayRight};
+
+use cache_folder::calls_keep_others;
+use cache_key::key_bytes_tell_apart;
+use disk_lru::entries_stay;
+
+/// An envelope is read as it was written, and only what was; and its two parts are the only ones that it can have.
+pub fn envelopes_are_read_as_written()
+    ensures fits { (bytes payload : List ℕ) → payload_of bytes (envelope bytes payload) ≡ Some payload }
+    ensures only { (bytes text payload : List ℕ) → payload_of bytes text ≡ Some payload
+        → text ≡ envelope bytes payload }
+    ensures parts { (a b p q : List ℕ) → length a < 2 ^ 32 → length b < 2 ^ 32
+        → envelope a p ≡ envelope b q → (a ≡ b) × (p ≡ q) }
+{
+    key_bytes_tell_apart();
+}
+
+/// The entry of a key is right exactly where its payload is what the content has for the key.
+pub fn entries_are_right()
+    ensures right { (content : Contents) (which : Which) (key : Key) (payload : List ℕ) → IsKey key
+        → IsPayload content which key payload → IsRight content (entry_of which key payload) }
+    ensures only { (content : Contents) (which : Which) (key : Key) (payload : List ℕ) → IsKey key
+        → IsRight content (entry_of which key payload) → IsPayload content which key payload }
+{
+    key_bytes_tell_apart();
+}
 
 /// From a sound world, an event that its seat is permitted leaves a sound one.
 pub fn each_event_keeps_sound()

@@ -6,4 +6,8 @@ mod events;
 mod laws;
 
 pub use events::{Chunk, Note, StoreEvent, StoreReply};
-pub use laws::each_event_keeps_sound;
+pub use laws::{
+    each_event_keeps_sound,
+    entries_are_right,
+    envelopes_are_read_as_written,
+};
