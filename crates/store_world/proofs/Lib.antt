@@ -6,3 +6,5 @@ pub mod Quiet
 pub mod Moves
 pub mod EventLaws
 pub mod Entries
+pub mod Begins
+pub mod Settings

@@ -45,3 +45,41 @@ pub fn entries_are_right()
 pub fn each_event_keeps_sound()
     ensures { (event : StoreEvent) → KeepsSound event }
 {}
+
+/// No event changes the content, the greatest size, or whether the store is off.
+pub fn each_event_keeps_settings()
+    ensures { (event : StoreEvent) → KeepsSettings event }
+{}
+
+/// The edits of other seats that are open keep their numbers.
+pub fn each_event_keeps_numbers()
+    ensures { (event : StoreEvent) → KeepsNumbers event }
+{}
+
+/// What the calls of the disk cache ask: a begin of the seat that has the lock, after the evictions before it, is refused
+/// neither as busy nor for want of room; and an edit to which no write failed is open.
+pub fn holders_may_call()
+    ensures begin { HoldersBegin }
+    ensures write { HoldersWrite }
+{}
+
+/// There are at most 16 requests, and fewer while a seat that is served has none.
+pub fn requests_are_few()
+    ensures few { RequestsAreFew }
+    ensures more { OneMoreFits }
+{}
+
+/// No two seats have one key's lock.
+pub fn locks_have_one_holder()
+    ensures { OneHolder }
+{}
+
+/// Where nothing is to go, evictions take nothing and change nothing, and cannot fail.
+pub fn room_keeps()
+    ensures { RoomKeeps }
+{}
+
+/// Evictions, and one more after them.
+pub fn evictions_go_on()
+    ensures { EvictsOneMore }
+{}

@@ -7,7 +7,14 @@ mod laws;
 
 pub use events::{Chunk, Note, StoreEvent, StoreReply};
 pub use laws::{
+    each_event_keeps_numbers,
+    each_event_keeps_settings,
     each_event_keeps_sound,
     entries_are_right,
     envelopes_are_read_as_written,
+    evictions_go_on,
+    holders_may_call,
+    locks_have_one_holder,
+    requests_are_few,
+    room_keeps,
 };
