@@ -8,3 +8,4 @@ pub mod EventLaws
 pub mod Entries
 pub mod Begins
 pub mod Settings
+pub mod Within

@@ -74,6 +74,21 @@ pub fn locks_have_one_holder()
     ensures { OneHolder }
 {}
 
+/// Each moment of an event offers only pairs that were offered or kept before it, or that it commits.
+pub fn each_moment_offers_what_was_given()
+    ensures { (event : StoreEvent) → KeepsWithin event }
+{}
+
+/// Where the content is told, each moment of an event offers only what is right.
+pub fn each_moment_offers_what_is_right()
+    ensures { (event : StoreEvent) → KeepsRight event }
+{}
+
+/// Where the content is told, what is fetched is a right pair with its key.
+pub fn fetches_are_right()
+    ensures { FetchesRight }
+{}
+
 /// Where nothing is to go, evictions take nothing and change nothing, and cannot fail.
 pub fn room_keeps()
     ensures { RoomKeeps }
