@@ -9,3 +9,4 @@ pub mod Entries
 pub mod Begins
 pub mod Settings
 pub mod Within
+pub mod Histories

@@ -98,3 +98,24 @@ pub fn room_keeps()
 pub fn evictions_go_on()
     ensures { EvictsOneMore }
 {}
+
+/// What a store opens with is sound.
+pub fn openings_are_sound()
+    ensures { (content : Option Contents) (before : Option FolderHistory) (w : World)
+        → IsOpening content before w → HoldsRightIn content before → Sound w (λ who. no_knowledge) }
+{}
+
+/// Each world that a legal history leads to is sound.
+pub fn each_history_is_sound<M>()
+    ensures { HistoriesAreSound M }
+{}
+
+/// Where the content is told, each moment since the start offers only what is right.
+pub fn each_history_offers_what_is_right<M>()
+    ensures { HistoriesAreRight M }
+{}
+
+/// A folder that offers only what is right still does after any number of runs, each ended or stopped at any moment.
+pub fn folders_stay_right<M>()
+    ensures { FoldersStayRight M }
+{}

@@ -1,0 +1,225 @@
+-- What a store opens with is sound, and so is what each legal history leads to; and runs on one folder.
+use Rattle.std.proofs.Common.{◌≡◌, ℕ, zero, suc, ◌<◌, true, false, cond, eqb, List, [], ◌∷◌, ◌++◌, length, take, Some, None, refl, sym, ap, subst, ◌∙◌, arith}
+use Rattle.std.specs.Prelude.{is_some, get_or, ⊤}
+use Rattle.std.specs.declared.option.Option.{Option}
+use Rattle.std.specs.Option.{option_map}
+use Rattle.std.specs.List.{AllByRecursion}
+use Rattle.std.proofs.lemmas.List.{append_assoc, append-nil, append_cancel_left}
+use Rattle.outside.specs.Content.{Contents}
+use Rattle.outside.specs.Files.{Folder, FolderHistory, last_of, passed_through}
+use Rattle.state_machine.specs.declared.entry.Entry.{Entry}
+use Rattle.state_machine.specs.declared.machine.Machine.{Ghosts}
+use Rattle.state_machine.specs.Histories.{own}
+use Rattle.state_machine.specs.Legal.{Leads, IsLegal}
+use Rattle.disk_table.specs.UseOrder.{Entries}
+use Rattle.disk_table.specs.Table.{edit_of}
+use Rattle.cache_folder.specs.Offered.{offered}
+use Rattle.cache_folder.specs.Images.{Runs}
+use Rattle.cache_folder.specs.Sound.{listed}
+use Rattle.cache_folder.specs.Tables.{mapped, kept_by}
+use Rattle.cache_folder.specs.Allowed.{Pass, values_of}
+use Rattle.disk_lru.specs.State.{entries, edits}
+use Rattle.disk_lru.specs.Past.{is_among}
+use Rattle.store_world.specs.declared.events.StoreEvent.{StoreEvent}
+use Rattle.store_world.specs.declared.events.StoreReply.{StoreReply}
+use Rattle.store_world.specs.declared.events.Note.{Note}
+use Rattle.store_world.specs.Right.{Pair, IsRight, AreRight, OffersRight, HoldsRight, HoldsRightIn}
+use Rattle.store_world.specs.World.{Request, World, request_of}
+use Rattle.store_world.specs.Steps.{Step}
+use Rattle.store_world.specs.Knowledge.{Knowledge, no_knowledge, updated, updated_by, learned, knowledge_in, knowledge_with}
+use Rattle.store_world.specs.Permits.{Permits}
+use Rattle.store_world.specs.Sound.{one_if, seat_count, taken, keys_under_edit, IsSeated, IsOrderly, IsHolding, open_at, open_count, IsRightDisk, IsRightStore, Sound}
+use Rattle.store_world.specs.StoreMachine.{IsOpening, store_machine}
+use Rattle.store_world.specs.Laws.{PassesRight}
+use Rattle.store_world.specs.Histories.{AlwaysSound, AlwaysRight, IsRun, RunsStayRight}
+use Rattle.store_world.proofs.Allowed.{some_folder, runs_then, runs_none, runs_weaken, among_has, weaken}
+use Rattle.store_world.proofs.Quiet.{closed_kept}
+use Rattle.store_world.proofs.EventLaws.{event_law}
+use Rattle.store_world.proofs.Within.{right_in, right_law}
+use Rattle.store_world.proofs.Settings.{settings_law}
+
+-- ---- the opening
+
+no_keys_open : (es : List (Option (List ℕ))) (written : List ℕ) (t : Entries (Option ℕ)) → ((key : List ℕ) → edit_of key es ≡ None) → keys_under_edit (mapped (kept_by es written) t) ≡ 0
+no_keys_open es written [] none = refl
+no_keys_open es written (e ∷ t) none = omega (arith, ap (λ (o : Option ℕ). one_if (is_some (option_map (λ number. get_or written number 0) o))) (none e.0), no_keys_open es written t none)
+
+none_open : (w : World) → w.requests ≡ [] → (key : List ℕ) → open_at key w.requests ≡ None
+none_open w empty key = ap (open_at key) empty
+
+opening_right : (content : Contents) (before : Option FolderHistory) (w : World) → IsOpening (Some content) before w → (holds : HoldsRight content before)
+    → IsRightDisk content w.disk × Runs (OffersRight content) holds.history w.disk.cache.history
+opening_right content before w o holds =
+    let h = holds.history in
+    let back : (xs : List Pair) → Pass (is_among (offered h.held)) xs → AreRight content xs = λ xs a. weaken _ (IsRight content) (λ p e. among_has (IsRight content) p (offered h.held) holds.right e) xs a in
+    let runs = runs_weaken (λ c. Pass (is_among (offered h.held)) (offered c)) (OffersRight content) (λ c a. back (offered c) a) h w.disk.cache.history (o.moments h holds.known) in
+    let after = passed_through runs.contents h in
+    (record { holds = record { history = after; known = runs.after_is; right = runs.here }; keeps = back (values_of (listed after.held (entries w.disk.cache))) (o.keeps h holds.known after runs.after_is) }, runs)
+
+right_at_opening : (content : Option Contents) (before : Option FolderHistory) (w : World) → IsOpening content before w → HoldsRightIn content before → IsRightStore content w.disk
+right_at_opening None before w o holds = tt
+right_at_opening (Some content) before w o holds = (opening_right content before w o holds).0
+
+pub opening_sound : (content : Option Contents) (before : Option FolderHistory) (w : World) → IsOpening content before w → HoldsRightIn content before → Sound w (λ who. no_knowledge)
+opening_sound content before w o holds =
+    let free : (key : List ℕ) → edit_of key (edits w.disk.cache) ≡ None = λ key. ap (edit_of key) o.free in
+    record {
+      seated = subst IsSeated (sym o.no_requests) tt;
+      seats = subst (AllByRecursion (λ (r : ℕ × Request). r.0 < seat_count)) (sym o.no_requests) tt;
+      orderly = subst IsOrderly (sym o.no_requests) tt;
+      holding = subst (AllByRecursion (λ (r : ℕ × Request). IsHolding r.1)) (sym o.no_requests) tt;
+      edits_agree = record {
+        lengths = λ key. closed_kept key (edits w.disk.cache) w.disk.cache.table.written w.disk.cache.table.table.entries (free key) ∙ sym (none_open w o.no_requests key);
+        numbers = λ key. ap is_some (free key) ∙ sym (ap is_some (none_open w o.no_requests key));
+        keys = no_keys_open (edits w.disk.cache) w.disk.cache.table.written w.disk.cache.table.table.entries free ∙ sym (ap open_count o.no_requests);
+        taken_are = ap taken o.free ∙ sym (ap open_count o.no_requests);
+        places = ap length o.free;
+      };
+      once = o.once;
+      files = λ k is who request found. let bad : None ≡ Some request = ap (request_of who) (sym o.no_requests) ∙ found in cc;
+      right = subst (λ c. IsRightStore c w.disk) (sym o.content_is) (right_at_opening content before w o holds);
+      off = λ is. o.no_requests;
+      known_is = λ who. ap (request_of who) (sym o.no_requests);
+    }
+
+-- ---- what seats know after one entry more
+
+own-append : {N : Type 0} (k : ℕ) (xs ys : List (Entry N)) → own k (xs ++ ys) ≡ own k xs ++ own k ys
+own-append k [] ys = refl
+own-append k (e ∷ xs) ys = elim (eqb e.by k) as (λ b. cond b (e ∷ own k (xs ++ ys)) (own k (xs ++ ys)) ≡ cond b (e ∷ own k xs) (own k xs) ++ own k ys) [
+  | true ↦ ap (λ l. e ∷ l) (own-append k xs ys)
+  | false ↦ own-append k xs ys
+]
+
+updated_by-append : (known : Knowledge) (xs ys : List (Entry Note)) → updated_by known (xs ++ ys) ≡ updated_by (updated_by known xs) ys
+updated_by-append known [] ys = refl
+updated_by-append known (e ∷ xs) ys = updated_by-append (updated e.note.event e.note.reply known) xs ys
+
+knows_more : (past : List (Entry Note)) (e : Entry Note) (k : ℕ) → knowledge_with (knowledge_in past) e.by e.note.event e.note.reply k ≡ knowledge_in (past ++ e ∷ []) k
+unfolding knowledge_with
+knows_more past e k =
+    let joined : knowledge_in (past ++ e ∷ []) k ≡ updated_by (knowledge_in past k) (own k (e ∷ [])) = ap learned (own-append k past (e ∷ [])) ∙ updated_by-append no_knowledge (own k past) (own k (e ∷ [])) in
+    elim (eqb e.by k) as (λ t. cond t (updated e.note.event e.note.reply (knowledge_in past k)) (knowledge_in past k) ≡ updated_by (knowledge_in past k) (cond t (e ∷ []) [])) [ true ↦ refl | false ↦ refl ] ∙ sym joined
+
+same_known : (w : World) (known known' : ℕ → Knowledge) → ((k : ℕ) → known' k ≡ known k) → Sound w known → Sound w known'
+same_known w known known' same s = record {
+  seated = s.seated;
+  seats = s.seats;
+  orderly = s.orderly;
+  holding = s.holding;
+  edits_agree = s.edits_agree;
+  once = s.once;
+  files = s.files;
+  right = s.right;
+  off = s.off;
+  known_is = λ k. same k ∙ s.known_is k;
+}
+
+-- ---- what each step keeps, a history keeps
+
+-- what holds between two worlds through any steps, of which some may be asked more
+pub record Carried (Holds : World → World → Type 0) (Asked : World → Entry Note → Type 0) : Type 0 where
+  pub here : (w : World) (known : ℕ → Knowledge) → Sound w known → Holds w w
+  pub then_ : (a b c : World) → Holds a b → Holds b c → Holds a c
+  pub step : (w z : World) (known : ℕ → Knowledge) (e : Entry Note) → e.by < seat_count → Sound w known → Permits w.content (known e.by) e.note.event → Asked w e → Step w e z → Holds w z
+
+module _ {M : Type 0} (opening now : M → World) (history : M → List (Entry Note)) where
+  abbrev machine : Ghosts M StoreEvent StoreReply Note
+  machine = store_machine opening now history
+
+  module _ (Holds : World → World → Type 0) (Asked : World → Entry Note → Type 0) (carried : Carried Holds Asked) where
+    pub through : (content : Option Contents) (past rest : List (Entry Note)) (w z : World) → w.content ≡ content → Sound w (knowledge_in past) → Leads machine w rest z
+        → ((xs ys : List (Entry Note)) (e : Entry Note) → rest ≡ xs ++ e ∷ ys → (e.by < seat_count) × Permits content (knowledge_in (past ++ xs) e.by) e.note.event)
+        → ((xs ys : List (Entry Note)) (e : Entry Note) (between : World) → rest ≡ xs ++ e ∷ ys → Leads machine w xs between → Asked between e)
+        → Sound z (knowledge_in (past ++ rest)) × Holds w z
+    through content past [] w z is s leads permits asked = (
+      subst (λ v. Sound v (knowledge_in (past ++ []))) leads (same_known w (knowledge_in past) (knowledge_in (past ++ [])) (λ k. ap (λ l. knowledge_in l k) (append-nil past)) s),
+      subst (Holds w) leads (carried.here w (knowledge_in past) s),
+    )
+    through content past (e ∷ rest) w z is s leads permits asked =
+        let first = permits [] rest e refl in
+        let mine : Permits w.content (knowledge_in past e.by) e.note.event = subst (λ c. Permits c (knowledge_in past e.by) e.note.event) (sym is) (subst (λ l. Permits content (knowledge_in l e.by) e.note.event) (append-nil past) first.1) in
+        let next = event_law e.note.event w leads.0 (knowledge_in past) e.by e.note.reply first.0 s mine leads.1 in
+        let holds = carried.step w leads.0 (knowledge_in past) e first.0 s mine (asked [] rest e w refl refl) leads.1 in
+        let settings = settings_law e.note.event w leads.0 e.by e.note.reply leads.1 in
+        let sound : Sound leads.0 (knowledge_in (past ++ e ∷ [])) = same_known leads.0 (knowledge_with (knowledge_in past) e.by e.note.event e.note.reply) (knowledge_in (past ++ e ∷ [])) (λ k. sym (knows_more past e k)) next in
+        let later : (xs ys : List (Entry Note)) (d : Entry Note) → rest ≡ xs ++ d ∷ ys → (d.by < seat_count) × Permits content (knowledge_in ((past ++ e ∷ []) ++ xs) d.by) d.note.event = λ xs ys d at.
+        let old = permits (e ∷ xs) ys d (ap (λ l. e ∷ l) at) in
+        (old.0, subst (λ l. Permits content (knowledge_in l d.by) d.note.event) (sym (append_assoc past (e ∷ []) xs)) old.1) in
+        let all = through content (past ++ e ∷ []) rest leads.0 z (settings.content ∙ is) sound leads.2 later (λ xs ys d between at l. asked (e ∷ xs) ys d between (ap (λ l. e ∷ l) at) (leads.0, leads.1, l)) in
+        (subst (λ l. Sound z (knowledge_in l)) (append_assoc past (e ∷ []) rest) all.0, carried.then_ w leads.0 z holds all.1)
+
+  -- the content
+  content_carried : Carried (λ a b. b.content ≡ a.content) (λ w e. ⊤)
+  content_carried = record {
+    here = λ w known s. refl;
+    then_ = λ a b c x y. y ∙ x;
+    step = λ w z known e small s permits asked step. (settings_law e.note.event w z e.by e.note.reply step).content;
+  }
+
+  -- after a legal history the world is sound, and has the content that it opened with
+  pub sound_after : (content : Option Contents) (before : Option FolderHistory) (w z : World) (past : List (Entry Note)) → IsOpening content before w → HoldsRightIn content before → IsLegal machine w past z
+      → Sound z (knowledge_in past) × (z.content ≡ content)
+  sound_after content before w z past o holds legal =
+      let both = through (λ a b. b.content ≡ a.content) (λ w e. ⊤) content_carried content [] past w z o.content_is (opening_sound content before w o holds) legal.leads
+      (λ xs ys e at. let may = legal.asked xs ys e at in (may.seat, subst (λ c. Permits c (knowledge_in xs e.by) e.note.event) o.content_is may.asked)) (λ xs ys e between at l. tt) in
+      (both.0, both.1 ∙ o.content_is)
+
+  pub always_sound : AlwaysSound opening now history
+  always_sound content before w z past o holds legal = (sound_after content before w z past o holds legal).0
+
+  -- where the content is told, each moment offers only what is right
+  abbrev StaysRight : World → World → Type 0
+  StaysRight a b = (content : Contents) → a.content ≡ Some content → (b.content ≡ Some content) × PassesRight content a.disk b.disk
+
+  passes_then : (content : Contents) (a b c : World) → PassesRight content a.disk b.disk → PassesRight content b.disk c.disk → PassesRight content a.disk c.disk
+  passes_then content a b c x y h known =
+      let first = x h known in
+      runs_then (OffersRight content) h b.disk.cache.history c.disk.cache.history first (y (passed_through first.contents h) first.after_is)
+
+  pub right_carried : Carried StaysRight (λ w e. ⊤)
+  right_carried = record {
+    here = λ w known s content is. (
+      is,
+      λ h k. let right = right_in content w known is s in
+          runs_none (OffersRight content) h w.disk.cache.history k (subst (λ (j : FolderHistory). OffersRight content j.held) (some_folder right.holds.history h (sym right.holds.known ∙ k)) right.holds.right),
+    );
+    then_ = λ a b c x y content is. let first = x content is in let second = y content first.0 in (second.0, passes_then content a b c first.1 second.1);
+    step = λ w z known e small s permits asked step content is. (
+      (settings_law e.note.event w z e.by e.note.reply step).content ∙ is,
+      right_law e.note.event content w z known e.by e.note.reply is s permits step,
+    );
+  }
+
+  pub always_right : AlwaysRight opening now history
+  always_right content before w z past o holds legal h known =
+      let start = (opening_right content before w o holds).1 in
+      let first = subst (λ (j : FolderHistory). Runs (OffersRight content) j w.disk.cache.history) (some_folder holds.history h (sym holds.known ∙ known)) start in
+      let all = (through StaysRight (λ w e. ⊤) right_carried (Some content) [] past w z o.content_is (opening_sound (Some content) before w o holds) legal.leads
+      (λ xs ys e at. let may = legal.asked xs ys e at in (may.seat, subst (λ c. Permits c (knowledge_in xs e.by) e.note.event) o.content_is may.asked)) (λ xs ys e between at l. tt)).1 content o.content_is in
+      runs_then (OffersRight content) h w.disk.cache.history z.disk.cache.history first (all.1 (passed_through first.contents h) first.after_is)
+
+  -- ---- runs
+
+  -- a folder after some of the changes is one of those that it passed through, or as it was
+  last_taken : (P : Folder → Type 0) (folder : Folder) (contents : List Folder) (count : ℕ) → P folder → AllByRecursion P contents → P (last_of folder (take count contents))
+  last_taken P folder [] zero p all = p
+  last_taken P folder [] (suc n) p all = p
+  last_taken P folder (c ∷ contents) zero p all = p
+  last_taken P folder (c ∷ contents) (suc n) p all = last_taken P c contents n all.0 all.1
+
+  same_contents : (h : FolderHistory) (xs ys : List Folder) → Some (passed_through xs h) ≡ Some (passed_through ys h) → xs ≡ ys
+  same_contents h xs ys e =
+      let same : passed_through xs h ≡ passed_through ys h = some_folder (passed_through xs h) (passed_through ys h) e in
+      append_cancel_left h.images xs ys (ap (λ (j : FolderHistory). j.images) same)
+
+  run_right : (content : Contents) (folder left : Folder) → OffersRight content folder → IsRun opening now history content folder left → OffersRight content left
+  run_right content folder left right run =
+      let here = subst (OffersRight content) (sym run.found) right in
+      let all = always_right content (Some run.before) run.opened run.ended run.past run.opens (record { history = run.before; known = refl; right = here }) run.legal run.before refl in
+      let each = subst (AllByRecursion (OffersRight content)) (same_contents run.before all.contents run.contents (sym all.after_is ∙ run.history_is)) all.each in
+      subst (OffersRight content) (sym run.left_is) (last_taken (OffersRight content) folder run.contents run.count right each)
+
+  pub runs_stay_right : RunsStayRight opening now history
+  runs_stay_right content zero folder left right runs = subst (OffersRight content) (sym runs) right
+  runs_stay_right content (suc n) folder left right runs = runs_stay_right content n runs.0 left (run_right content folder runs.0 right runs.1) runs.2
