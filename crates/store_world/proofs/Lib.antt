@@ -6,7 +6,8 @@ pub mod Quiet
 pub mod Moves
 pub mod EventLaws
 pub mod Entries
+pub mod Within
 pub mod Begins
 pub mod Settings
-pub mod Within
 pub mod Histories
+pub mod Staying

@@ -89,6 +89,22 @@ pub fn fetches_are_right()
     ensures { FetchesRight }
 {}
 
+/// What a commit that succeeded had written is an entry, until the evictions that follow take just this key.
+pub fn commits_store()
+    ensures { CommitStores }
+{
+    calls_keep_others();
+    entries_stay();
+}
+
+/// An entry is offered at each moment of an event and after it, unless an eviction chooses it or a read of it fails.
+pub fn each_event_keeps_entries()
+    ensures { (event : StoreEvent) → KeepsEntries event }
+{
+    calls_keep_others();
+    entries_stay();
+}
+
 /// Where nothing is to go, evictions take nothing and change nothing, and cannot fail.
 pub fn room_keeps()
     ensures { RoomKeeps }
@@ -114,6 +130,14 @@ pub fn each_history_is_sound<M>()
 pub fn each_history_offers_what_is_right<M>()
     ensures { HistoriesAreRight M }
 {}
+
+/// An entry that is offered after a legal history is so after each later one none of whose steps may take it.
+pub fn each_history_keeps_entries<M>()
+    ensures { HistoriesKeepEntries M }
+{
+    calls_keep_others();
+    entries_stay();
+}
 
 /// A folder that offers only what is right still does after any number of runs, each ended or stopped at any moment.
 pub fn folders_stay_right<M>()
