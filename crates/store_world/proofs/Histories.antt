@@ -1,6 +1,6 @@
 -- What a store opens with is sound, and so is what each legal history leads to; and runs on one folder.
-use Rattle.std.proofs.Common.{◌≡◌, ℕ, zero, suc, ◌<◌, true, false, cond, eqb, List, [], ◌∷◌, ◌++◌, length, take, Some, None, refl, sym, ap, subst, ◌∙◌, arith}
-use Rattle.std.specs.Prelude.{is_some, get_or, ⊤}
+use Rattle.std.proofs.Common.{◌≡◌, ℕ, zero, suc, ◌<◌, true, false, cond, eqb, List, [], ◌∷◌, ◌++◌, length, take, Some, None, refl, sym, ap, subst, ◌∙◌, arith, Bool}
+use Rattle.std.specs.Prelude.{is_some, get_or, ⊤, ◌||◌}
 use Rattle.std.specs.declared.option.Option.{Option}
 use Rattle.std.specs.Option.{option_map}
 use Rattle.std.specs.List.{AllByRecursion}
@@ -14,12 +14,13 @@ use Rattle.state_machine.specs.Legal.{Leads, IsLegal}
 use Rattle.disk_table.specs.UseOrder.{Entries}
 use Rattle.disk_table.specs.Table.{edit_of}
 use Rattle.cache_folder.specs.Offered.{offered}
-use Rattle.cache_folder.specs.Images.{Runs}
+use Rattle.cache_folder.specs.Images.{IfKnown, Runs}
 use Rattle.cache_folder.specs.Sound.{listed}
 use Rattle.cache_folder.specs.Tables.{mapped, kept_by}
-use Rattle.cache_folder.specs.Allowed.{Pass, values_of}
+use Rattle.cache_folder.specs.Allowed.{Pass, IsWithin, values_of}
 use Rattle.disk_lru.specs.State.{entries, edits}
-use Rattle.disk_lru.specs.Past.{is_among}
+use Rattle.disk_lru.specs.Past.{is_among, is_pair, DiskState}
+use Rattle.disk_lru.specs.Calls.{StaysWithin}
 use Rattle.store_world.specs.declared.events.StoreEvent.{StoreEvent}
 use Rattle.store_world.specs.declared.events.StoreReply.{StoreReply}
 use Rattle.store_world.specs.declared.events.Note.{Note}
@@ -30,12 +31,12 @@ use Rattle.store_world.specs.Knowledge.{Knowledge, no_knowledge, updated, update
 use Rattle.store_world.specs.Permits.{Permits}
 use Rattle.store_world.specs.Sound.{one_if, seat_count, taken, keys_under_edit, IsSeated, IsOrderly, IsHolding, open_at, open_count, IsRightDisk, IsRightStore, Sound}
 use Rattle.store_world.specs.StoreMachine.{IsOpening, store_machine}
-use Rattle.store_world.specs.Laws.{PassesRight}
-use Rattle.store_world.specs.Histories.{AlwaysSound, AlwaysRight, IsRun, RunsStayRight}
-use Rattle.store_world.proofs.Allowed.{some_folder, runs_then, runs_none, runs_weaken, among_has, weaken}
+use Rattle.store_world.specs.Laws.{handed_by_event, PassesRight}
+use Rattle.store_world.specs.Histories.{committed_after, committed_in, AlwaysSound, AlwaysRight, AlwaysGiven, IsRun, RunsStayRight}
+use Rattle.store_world.proofs.Allowed.{some_folder, runs_then, runs_none, runs_weaken, among_has, all_among, all_front, all_back, allows_same, weaken}
 use Rattle.store_world.proofs.Quiet.{closed_kept}
 use Rattle.store_world.proofs.EventLaws.{event_law}
-use Rattle.store_world.proofs.Within.{right_in, right_law}
+use Rattle.store_world.proofs.Within.{event_allows, right_in, right_law}
 use Rattle.store_world.proofs.Settings.{settings_law}
 
 -- ---- the opening
@@ -118,19 +119,19 @@ same_known w known known' same s = record {
 -- ---- what each step keeps, a history keeps
 
 -- what holds between two worlds through any steps, of which some may be asked more
-pub record Carried (Holds : World → World → Type 0) (Asked : World → Entry Note → Type 0) : Type 0 where
+pub record Carried (Holds : World → World → Type 0) (Asked : World → Knowledge → Entry Note → Type 0) : Type 0 where
   pub here : (w : World) (known : ℕ → Knowledge) → Sound w known → Holds w w
   pub then_ : (a b c : World) → Holds a b → Holds b c → Holds a c
-  pub step : (w z : World) (known : ℕ → Knowledge) (e : Entry Note) → e.by < seat_count → Sound w known → Permits w.content (known e.by) e.note.event → Asked w e → Step w e z → Holds w z
+  pub step : (w z : World) (known : ℕ → Knowledge) (e : Entry Note) → e.by < seat_count → Sound w known → Permits w.content (known e.by) e.note.event → Asked w (known e.by) e → Step w e z → Holds w z
 
 module _ {M : Type 0} (opening now : M → World) (history : M → List (Entry Note)) where
   abbrev machine : Ghosts M StoreEvent StoreReply Note
   machine = store_machine opening now history
 
-  module _ (Holds : World → World → Type 0) (Asked : World → Entry Note → Type 0) (carried : Carried Holds Asked) where
+  module _ (Holds : World → World → Type 0) (Asked : World → Knowledge → Entry Note → Type 0) (carried : Carried Holds Asked) where
     pub through : (content : Option Contents) (past rest : List (Entry Note)) (w z : World) → w.content ≡ content → Sound w (knowledge_in past) → Leads machine w rest z
         → ((xs ys : List (Entry Note)) (e : Entry Note) → rest ≡ xs ++ e ∷ ys → (e.by < seat_count) × Permits content (knowledge_in (past ++ xs) e.by) e.note.event)
-        → ((xs ys : List (Entry Note)) (e : Entry Note) (between : World) → rest ≡ xs ++ e ∷ ys → Leads machine w xs between → Asked between e)
+        → ((xs ys : List (Entry Note)) (e : Entry Note) (between : World) → rest ≡ xs ++ e ∷ ys → Leads machine w xs between → Asked between (knowledge_in (past ++ xs) e.by) e)
         → Sound z (knowledge_in (past ++ rest)) × Holds w z
     through content past [] w z is s leads permits asked = (
       subst (λ v. Sound v (knowledge_in (past ++ []))) leads (same_known w (knowledge_in past) (knowledge_in (past ++ [])) (λ k. ap (λ l. knowledge_in l k) (append-nil past)) s),
@@ -140,17 +141,17 @@ module _ {M : Type 0} (opening now : M → World) (history : M → List (Entry N
         let first = permits [] rest e refl in
         let mine : Permits w.content (knowledge_in past e.by) e.note.event = subst (λ c. Permits c (knowledge_in past e.by) e.note.event) (sym is) (subst (λ l. Permits content (knowledge_in l e.by) e.note.event) (append-nil past) first.1) in
         let next = event_law e.note.event w leads.0 (knowledge_in past) e.by e.note.reply first.0 s mine leads.1 in
-        let holds = carried.step w leads.0 (knowledge_in past) e first.0 s mine (asked [] rest e w refl refl) leads.1 in
+        let holds = carried.step w leads.0 (knowledge_in past) e first.0 s mine (subst (λ l. Asked w (knowledge_in l e.by) e) (append-nil past) (asked [] rest e w refl refl)) leads.1 in
         let settings = settings_law e.note.event w leads.0 e.by e.note.reply leads.1 in
         let sound : Sound leads.0 (knowledge_in (past ++ e ∷ [])) = same_known leads.0 (knowledge_with (knowledge_in past) e.by e.note.event e.note.reply) (knowledge_in (past ++ e ∷ [])) (λ k. sym (knows_more past e k)) next in
         let later : (xs ys : List (Entry Note)) (d : Entry Note) → rest ≡ xs ++ d ∷ ys → (d.by < seat_count) × Permits content (knowledge_in ((past ++ e ∷ []) ++ xs) d.by) d.note.event = λ xs ys d at.
         let old = permits (e ∷ xs) ys d (ap (λ l. e ∷ l) at) in
         (old.0, subst (λ l. Permits content (knowledge_in l d.by) d.note.event) (sym (append_assoc past (e ∷ []) xs)) old.1) in
-        let all = through content (past ++ e ∷ []) rest leads.0 z (settings.content ∙ is) sound leads.2 later (λ xs ys d between at l. asked (e ∷ xs) ys d between (ap (λ l. e ∷ l) at) (leads.0, leads.1, l)) in
+        let all = through content (past ++ e ∷ []) rest leads.0 z (settings.content ∙ is) sound leads.2 later (λ xs ys d between at l. subst (λ q. Asked between (knowledge_in q d.by) d) (sym (append_assoc past (e ∷ []) xs)) (asked (e ∷ xs) ys d between (ap (λ l. e ∷ l) at) (leads.0, leads.1, l))) in
         (subst (λ l. Sound z (knowledge_in l)) (append_assoc past (e ∷ []) rest) all.0, carried.then_ w leads.0 z holds all.1)
 
   -- the content
-  content_carried : Carried (λ a b. b.content ≡ a.content) (λ w e. ⊤)
+  content_carried : Carried (λ a b. b.content ≡ a.content) (λ w k e. ⊤)
   content_carried = record {
     here = λ w known s. refl;
     then_ = λ a b c x y. y ∙ x;
@@ -161,7 +162,7 @@ module _ {M : Type 0} (opening now : M → World) (history : M → List (Entry N
   pub sound_after : (content : Option Contents) (before : Option FolderHistory) (w z : World) (past : List (Entry Note)) → IsOpening content before w → HoldsRightIn content before → IsLegal machine w past z
       → Sound z (knowledge_in past) × (z.content ≡ content)
   sound_after content before w z past o holds legal =
-      let both = through (λ a b. b.content ≡ a.content) (λ w e. ⊤) content_carried content [] past w z o.content_is (opening_sound content before w o holds) legal.leads
+      let both = through (λ a b. b.content ≡ a.content) (λ w k e. ⊤) content_carried content [] past w z o.content_is (opening_sound content before w o holds) legal.leads
       (λ xs ys e at. let may = legal.asked xs ys e at in (may.seat, subst (λ c. Permits c (knowledge_in xs e.by) e.note.event) o.content_is may.asked)) (λ xs ys e between at l. tt) in
       (both.0, both.1 ∙ o.content_is)
 
@@ -177,7 +178,7 @@ module _ {M : Type 0} (opening now : M → World) (history : M → List (Entry N
       let first = x h known in
       runs_then (OffersRight content) h b.disk.cache.history c.disk.cache.history first (y (passed_through first.contents h) first.after_is)
 
-  pub right_carried : Carried StaysRight (λ w e. ⊤)
+  pub right_carried : Carried StaysRight (λ w k e. ⊤)
   right_carried = record {
     here = λ w known s content is. (
       is,
@@ -195,9 +196,56 @@ module _ {M : Type 0} (opening now : M → World) (history : M → List (Entry N
   always_right content before w z past o holds legal h known =
       let start = (opening_right content before w o holds).1 in
       let first = subst (λ (j : FolderHistory). Runs (OffersRight content) j w.disk.cache.history) (some_folder holds.history h (sym holds.known ∙ known)) start in
-      let all = (through StaysRight (λ w e. ⊤) right_carried (Some content) [] past w z o.content_is (opening_sound (Some content) before w o holds) legal.leads
+      let all = (through StaysRight (λ w k e. ⊤) right_carried (Some content) [] past w z o.content_is (opening_sound (Some content) before w o holds) legal.leads
       (λ xs ys e at. let may = legal.asked xs ys e at in (may.seat, subst (λ c. Permits c (knowledge_in xs e.by) e.note.event) o.content_is may.asked)) (λ xs ys e between at l. tt)).1 content o.content_is in
       runs_then (OffersRight content) h w.disk.cache.history z.disk.cache.history first (all.1 (passed_through first.contents h) first.after_is)
+
+  -- ---- what was offered and what is committed
+
+  -- what passes a test is all that is offered, where it was and all that is handed over does
+  abbrev Within : (Pair → Bool) → World → World → Type 0
+  Within allowed a b = IfKnown a.disk.cache.history (λ h. IsWithin allowed h.held (entries a.disk.cache) → StaysWithin allowed h b.disk.cache)
+
+  abbrev HandsOver : (Pair → Bool) → World → Knowledge → Entry Note → Type 0
+  HandsOver allowed w known e = Pass allowed (handed_by_event e.note.event known)
+
+  within_then : (allowed : Pair → Bool) (a b c : World) → Within allowed a b → Within allowed b c → Within allowed a c
+  within_then allowed a b c x y h known within =
+      let first = x h known within in
+      let mid = passed_through first.moments.contents h in
+      let second = y mid first.moments.after_is (first.within mid first.moments.after_is) in
+      record { moments = runs_then (λ f. Pass allowed (offered f)) h b.disk.cache.history c.disk.cache.history first.moments second.moments; within = second.within }
+
+  within_carried : (allowed : Pair → Bool) → Carried (Within allowed) (HandsOver allowed)
+  within_carried allowed = record {
+    here = λ w known s h is within. allows_same w.disk w.disk refl refl h is allowed within tt;
+    then_ = within_then allowed;
+    step = λ w z known e small s permits asked step h is within. event_allows e.note.event w z known e.by e.note.reply s permits step h is allowed within asked;
+  }
+
+  -- what an entry hands over is among what the history commits
+  committed_has : (P : Pair → Type 0) (start xs ys : List (Entry Note)) (e : Entry Note) → AllByRecursion P (committed_after start (xs ++ e ∷ ys)) → AllByRecursion P (handed_by_event e.note.event (knowledge_in (start ++ xs) e.by))
+  committed_has P start [] ys e all = subst (λ l. AllByRecursion P (handed_by_event e.note.event (knowledge_in l e.by))) (sym (append-nil start)) (all_front P (handed_by_event e.note.event (knowledge_in start e.by)) (committed_after (start ++ e ∷ []) ys) all)
+  committed_has P start (x ∷ xs) ys e all =
+      subst (λ l. AllByRecursion P (handed_by_event e.note.event (knowledge_in l e.by))) (append_assoc start (x ∷ []) xs)
+      (committed_has P (start ++ x ∷ []) xs ys e (all_back P (handed_by_event x.note.event (knowledge_in start x.by)) (committed_after (start ++ x ∷ []) (xs ++ e ∷ ys)) all))
+
+  among_more : (xs ys : List Pair) (p : Pair) → is_among xs p ≡ true → is_among (xs ++ ys) p ≡ true
+  among_more [] ys p e = cc
+  among_more (x ∷ xs) ys p e = elim (is_pair p x) as (λ b. b || is_among xs p ≡ true → b || is_among (xs ++ ys) p ≡ true) [ true ↦ λ h. refl | false ↦ λ h. among_more xs ys p h ] e
+
+  pub always_given : AlwaysGiven opening now history
+  always_given content before w z past o holds legal h known =
+      let all = offered h.held ++ committed_in past in
+      let more : (xs : List Pair) → Pass (is_among (offered h.held)) xs → Pass (is_among all) xs = λ xs a. weaken _ _ (λ p e. among_more (offered h.held) (committed_in past) p e) xs a in
+      let first = runs_weaken (λ c. Pass (is_among (offered h.held)) (offered c)) (λ c. Pass (is_among all) (offered c)) (λ c a. more (offered c) a) h w.disk.cache.history (o.moments h known) in
+      let after = passed_through first.contents h in
+      let within : IsWithin (is_among all) after.held (entries w.disk.cache) = record { offers_allowed = first.here; keeps_allowed = more (values_of (listed after.held (entries w.disk.cache))) (o.keeps h known after first.after_is) } in
+      let each = all_back (λ p. is_among all p ≡ true) (offered h.held) (committed_in past) (all_among all) in
+      let stays = (through (Within (is_among all)) (HandsOver (is_among all)) (within_carried (is_among all)) content [] past w z o.content_is (opening_sound content before w o holds) legal.leads
+      (λ xs ys e at. let may = legal.asked xs ys e at in (may.seat, subst (λ c. Permits c (knowledge_in xs e.by) e.note.event) o.content_is may.asked))
+      (λ xs ys e between at l. committed_has (λ p. is_among all p ≡ true) [] xs ys e (subst (λ q. Pass (is_among all) (committed_after [] q)) at each))).1 after first.after_is within in
+      runs_then (λ c. Pass (is_among all) (offered c)) h w.disk.cache.history z.disk.cache.history first stays.moments
 
   -- ---- runs
 

@@ -309,7 +309,7 @@ module _ (stay : EntriesStay) (answers : ListAnswers) where
 -- ---- an entry through a history
 
 module _ {M : Type 0} (opening now : M → World) (history : M → List (Entry Note)) (stay : EntriesStay) (answers : ListAnswers) where
-  entry_carried : (pair : Pair) → Carried (λ a b. EntryStays pair a.disk.cache b.disk.cache) (λ w e. MayTake pair.0 w e.by e.note.event e.note.reply → ⊥)
+  entry_carried : (pair : Pair) → Carried (λ a b. EntryStays pair a.disk.cache b.disk.cache) (λ w k e. MayTake pair.0 w e.by e.note.event e.note.reply → ⊥)
   entry_carried pair = record {
     here = λ w known s. stays_same pair w.disk w.disk refl;
     then_ = λ a b c x y. stays_then pair a.disk b.disk c.disk x y;
@@ -322,6 +322,6 @@ module _ {M : Type 0} (opening now : M → World) (history : M → List (Entry N
   pub always_offered : AlwaysOffered opening now history
   always_offered content before w between z past later pair o holds legal longer leads none =
       let at = sound_after opening now history content before w between past o holds legal in
-      (through opening now history (λ a b. EntryStays pair a.disk.cache b.disk.cache) (λ v e. MayTake pair.0 v e.by e.note.event e.note.reply → ⊥) (entry_carried pair) content past later between z at.1 at.0 leads
+      (through opening now history (λ a b. EntryStays pair a.disk.cache b.disk.cache) (λ v k e. MayTake pair.0 v e.by e.note.event e.note.reply → ⊥) (entry_carried pair) content past later between z at.1 at.0 leads
       (λ xs ys e is. let may = longer.asked (past ++ xs) ys e (ap (λ l. past ++ l) is ∙ sym (append_assoc past xs (e ∷ ys))) in (may.seat, subst (λ c. Permits c (knowledge_in (past ++ xs) e.by) e.note.event) o.content_is may.asked))
       (λ xs ys e v is l. none xs ys e v is l)).1

@@ -1,20 +1,41 @@
 -- What holds through each history of the store, and over any list of runs on one folder. It is this project's
 -- own.
-use Rattle.std.specs.Prelude.{◌≡◌, ℕ, zero, suc, List, ◌∷◌, ◌++◌, take, Some}
+use Rattle.std.specs.Prelude.{◌≡◌, ℕ, zero, suc, List, ◌∷◌, ◌++◌, take, Some, []}
 use Rattle.std.specs.declared.option.Option.{Option}
 use Rattle.outside.specs.Content.{Contents}
 use Rattle.outside.specs.Files.{Folder, FolderHistory, last_of, passed_through}
 use Rattle.state_machine.specs.declared.entry.Entry.{Entry}
 use Rattle.state_machine.specs.Legal.{Leads, IsLegal}
 use Rattle.cache_folder.specs.Images.{IfKnown, Runs}
+use Rattle.cache_folder.specs.Offered.{offered}
+use Rattle.cache_folder.specs.Allowed.{Pass}
+use Rattle.disk_lru.specs.Past.{DiskState, is_among}
 use Rattle.disk_lru.specs.Staying.{EntryStays}
 use Rattle.store_world.specs.declared.events.Note.{Note}
 use Rattle.store_world.specs.Right.{Pair, OffersRight, HoldsRightIn}
 use Rattle.store_world.specs.World.{World}
 use Rattle.store_world.specs.Knowledge.{knowledge_in}
 use Rattle.store_world.specs.Sound.{Sound}
+use Rattle.store_world.specs.Laws.{handed_by_event}
 use Rattle.store_world.specs.StoreMachine.{IsOpening, store_machine}
 use Rattle.store_world.specs.Staying.{MayTake}
+
+-- ---- what a history commits
+
+-- the pairs that the later entries hand to `commit`, each by what its seat had written, after these earlier
+-- ones
+abbrev pub committed_after : List (Entry Note) → List (Entry Note) → List Pair
+committed_after past [] = []
+committed_after past (e ∷ later) =
+    handed_by_event e.note.event (knowledge_in past e.by) ++ committed_after (past ++ e ∷ []) later
+
+abbrev pub committed_in : List (Entry Note) → List Pair
+committed_in history = committed_after [] history
+
+-- the files passed only through contents that offer some of these pairs
+abbrev pub OffersOnly : List Pair → FolderHistory → DiskState → Type 0
+OffersOnly pairs before disk =
+    Runs (λ c. Pass (is_among pairs) (offered c)) before disk.cache.history
 
 -- for each kind of store, by how it shows its worlds and its history
 module _ {M : Type 0} (opening now : M → World) (history : M → List (Entry Note)) where
@@ -31,6 +52,14 @@ module _ {M : Type 0} (opening now : M → World) (history : M → List (Entry N
       (past : List (Entry Note)) → IsOpening (Some content) before w → HoldsRightIn (Some content) before
       → IsLegal (store_machine opening now history) w past z
       → IfKnown before (λ h. Runs (OffersRight content) h z.disk.cache.history)
+
+  -- Each moment since the start was called offers only pairs that were offered then, or that the history
+  -- committed.
+  abbrev pub AlwaysGiven : Type 0
+  AlwaysGiven = (content : Option Contents) (before : Option FolderHistory) (w z : World)
+      (past : List (Entry Note)) → IsOpening content before w → HoldsRightIn content before
+      → IsLegal (store_machine opening now history) w past z
+      → IfKnown before (λ h. OffersOnly (offered h.held ++ committed_in past) h z.disk)
 
   -- None of these steps may take the entry of the key.
   abbrev pub NoneTakes : List ℕ → World → List (Entry Note) → Type 0
@@ -85,6 +114,10 @@ HistoriesAreSound M =
 abbrev pub HistoriesAreRight : Type 0 → Type 0
 HistoriesAreRight M =
     (opening now : M → World) (history : M → List (Entry Note)) → AlwaysRight opening now history
+
+abbrev pub HistoriesOfferGiven : Type 0 → Type 0
+HistoriesOfferGiven M =
+    (opening now : M → World) (history : M → List (Entry Note)) → AlwaysGiven opening now history
 
 abbrev pub HistoriesKeepEntries : Type 0 → Type 0
 HistoriesKeepEntries M =

@@ -14,7 +14,7 @@ ghost use Rattle.store_world.specs.Sound.{Sound};
 ghost use Rattle.store_world.specs.StoreMachine.{IsOpening};
 ghost use Rattle.store_world.specs.Laws.{KeepsSound, KeepsSettings, KeepsNumbers, HoldersBegin, HoldersWrite, RequestsAreFew, OneMoreFits, OneHolder, KeepsWithin, KeepsRight, FetchesRight, CommitStores, RoomKeeps, EvictsOneMore};
 ghost use Rattle.store_world.specs.Staying.{KeepsEntries};
-ghost use Rattle.store_world.specs.Histories.{HistoriesAreSound, HistoriesAreRight, HistoriesKeepEntries, FoldersStayRight};
+ghost use Rattle.store_world.specs.Histories.{HistoriesAreSound, HistoriesAreRight, HistoriesOfferGiven, HistoriesKeepEntries, FoldersStayRight};
 
 use cache_folder::calls_keep_others;
 use cache_key::key_bytes_tell_apart;
@@ -129,6 +129,11 @@ pub fn each_history_is_sound<M>()
 /// Where the content is told, each moment since the start offers only what is right.
 pub fn each_history_offers_what_is_right<M>()
     ensures { HistoriesAreRight M }
+{}
+
+/// Each moment since the start offers only pairs that were offered when it was called, or that the history committed.
+pub fn each_history_offers_what_was_given<M>()
+    ensures { HistoriesOfferGiven M }
 {}
 
 /// An entry that is offered after a legal history is so after each later one none of whose steps may take it.
