@@ -16,3 +16,4 @@ pub mod StoreMachine
 pub mod Laws
 pub mod Staying
 pub mod Histories
+pub mod Worked

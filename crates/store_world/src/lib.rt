@@ -4,6 +4,8 @@
 
 mod events;
 mod laws;
+#[cfg(test)]
+mod worked;
 
 pub use events::{Chunk, Note, StoreEvent, StoreReply};
 pub use laws::{
