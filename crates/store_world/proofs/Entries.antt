@@ -24,10 +24,10 @@ word n = to_le_bytes w32 n
 abbrev front_of : List ℕ → List ℕ → List ℕ
 front_of bytes payload = codes "GLD1" ++ (word (length bytes) ++ (bytes ++ word (length payload)))
 
-unfolded : (bytes payload : List ℕ) → envelope bytes payload ≡ codes "GLD1" ++ (word (length bytes) ++ (bytes ++ (word (length payload) ++ payload)))
+pub unfolded : (bytes payload : List ℕ) → envelope bytes payload ≡ codes "GLD1" ++ (word (length bytes) ++ (bytes ++ (word (length payload) ++ payload)))
 unfolded bytes payload = ap (λ l. codes "GLD1" ++ l) (append_assoc (word (length bytes)) bytes (sized payload))
 
-drop_front : (bytes payload : List ℕ) → drop (front_size bytes) (envelope bytes payload) ≡ payload
+pub drop_front : (bytes payload : List ℕ) → drop (front_size bytes) (envelope bytes payload) ≡ payload
 drop_front bytes payload =
     let joined : envelope bytes payload ≡ front_of bytes payload ++ payload = unfolded bytes payload ∙ ap (λ l. codes "GLD1" ++ (word (length bytes) ++ l)) (sym (append_assoc bytes (word (length payload)) payload)) in
     let last : length (word (length payload)) ≡ 4 = refl in

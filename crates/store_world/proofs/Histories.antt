@@ -19,7 +19,7 @@ use Rattle.cache_folder.specs.Sound.{listed}
 use Rattle.cache_folder.specs.Tables.{mapped, kept_by}
 use Rattle.cache_folder.specs.Allowed.{Pass, IsWithin, values_of}
 use Rattle.disk_lru.specs.State.{entries, edits}
-use Rattle.disk_lru.specs.Past.{is_among, is_pair, DiskState}
+use Rattle.disk_lru.specs.Past.{is_among, is_pair}
 use Rattle.disk_lru.specs.Calls.{StaysWithin}
 use Rattle.store_world.specs.declared.events.StoreEvent.{StoreEvent}
 use Rattle.store_world.specs.declared.events.StoreReply.{StoreReply}

@@ -11,3 +11,4 @@ pub mod Begins
 pub mod Settings
 pub mod Histories
 pub mod Staying
+pub mod Deciding

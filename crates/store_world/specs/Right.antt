@@ -1,5 +1,5 @@
 -- Which entries are right under a content. It is this project's own.
-use Rattle.std.specs.Prelude.{◌≡◌, ℕ, List, Some, None, Ok, ⊤}
+use Rattle.std.specs.Prelude.{◌≡◌, ◌↔◌, ◌⊎◌, ℕ, List, Some, None, Ok, ⊤}
 use Rattle.std.specs.declared.option.Option.{Option}
 use Rattle.std.specs.List.{AllByRecursion}
 use Rattle.std.specs.FinMap.{get}
@@ -65,3 +65,16 @@ HoldsRightIn (Some content) files = HoldsRight content files
 pub record IsTruth (told : Option Contents) (files : Option FolderHistory) (content : Contents) : Type 0 where
   pub told_is : told ≡ Some content
   pub holds : HoldsRight content files
+
+-- what is true of a run, if anything is
+abbrev pub IsTruthOf : Option Contents → Option FolderHistory → Option Contents → Type 0
+IsTruthOf told files truth = (content : Contents) → (truth ≡ Some content) ↔ IsTruth told files content
+
+-- ---- rightness can be decided
+
+abbrev pub IsDecided : Type 0 → Type 0
+IsDecided P = P ⊎ (P → ⊥)
+
+-- and so there is just one truth of a run, or none
+abbrev pub HasTruth : Option Contents → Option FolderHistory → Type 0
+HasTruth told files = (truth : Option Contents) × IsTruthOf told files truth

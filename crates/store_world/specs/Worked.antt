@@ -1,6 +1,5 @@
 -- Worked examples of the store. They are this project's own.
 use Rattle.std.specs.Prelude.{ℕ, false, true, List, [], ◌∷◌, ◌++◌, None, codes}
-use Rattle.cache_key.specs.Worked.{red_key}
 use Rattle.disk_lru.specs.Past.{DiskState}
 use Rattle.store_world.specs.World.{Requests, World}
 use Rattle.store_world.specs.Steps.{new_request, granted}

@@ -2,12 +2,12 @@
 ghost use Rattle.std.specs.Prelude.{◌≡◌, ℕ, ◌<◌, ◌^◌, List, length, Some};
 ghost use Rattle.std.specs.declared.option.Option.{Option};
 ghost use Rattle.outside.specs.Content.{Contents};
-ghost use Rattle.outside.specs.Files.{FolderHistory};
+ghost use Rattle.outside.specs.Files.{Folder, FolderHistory};
 ghost use Rattle.cache_key.specs.declared.bytes.Which.{Which};
 ghost use Rattle.cache_key.specs.Key.{Key, IsKey};
 ghost use Rattle.store_world.specs.declared.events.StoreEvent.{StoreEvent};
 ghost use Rattle.store_world.specs.Envelopes.{envelope, payload_of};
-ghost use Rattle.store_world.specs.Right.{IsPayload, entry_of, IsRight, HoldsRightIn};
+ghost use Rattle.store_world.specs.Right.{IsPayload, entry_of, IsRight, OffersRight, HoldsRightIn, IsDecided, HasTruth};
 ghost use Rattle.store_world.specs.World.{World};
 ghost use Rattle.store_world.specs.Knowledge.{no_knowledge};
 ghost use Rattle.store_world.specs.Sound.{Sound};
@@ -40,6 +40,12 @@ pub fn entries_are_right()
 {
     key_bytes_tell_apart();
 }
+
+/// Whether a folder offers only what is right under a content can be decided, and so there is a truth of each run, or none.
+pub fn rightness_is_decided()
+    ensures folder { (content : Contents) (folder : Folder) → IsDecided (OffersRight content folder) }
+    ensures truth { (told : Option Contents) (files : Option FolderHistory) → HasTruth told files }
+{}
 
 /// From a sound world, an event that its seat is permitted leaves a sound one.
 pub fn each_event_keeps_sound()

@@ -14,5 +14,6 @@ pub use laws::{
     each_history_offers_what_is_right, each_history_offers_what_was_given,
     each_moment_offers_what_is_right, each_moment_offers_what_was_given, entries_are_right,
     envelopes_are_read_as_written, evictions_go_on, fetches_are_right, folders_stay_right,
-    holders_may_call, locks_have_one_holder, openings_are_sound, requests_are_few, room_keeps,
+    holders_may_call, locks_have_one_holder, openings_are_sound, requests_are_few,
+    rightness_is_decided, room_keeps,
 };
