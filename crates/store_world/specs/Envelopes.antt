@@ -1,4 +1,4 @@
--- The files of the store's entries. That a file names the key bytes that it is kept for is this project's own.
+-- The files of the store's entries. That each names the key bytes that it is kept for is this project's own.
 use Rattle.std.specs.Prelude.{ℕ, ◌+◌, List, ◌++◌, length, drop, Some, None, if◌then◌else◌, codes}
 use Rattle.std.specs.declared.option.Option.{Option}
 use Rattle.std.specs.Str.{bytes_eq}

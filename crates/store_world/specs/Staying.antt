@@ -1,4 +1,4 @@
--- How long an entry is offered: until an eviction chooses it, or a read of it fails. It is this project's own.
+-- How long an entry is offered: until an eviction chooses it, or a read of it fails. This project's own.
 use Rattle.std.specs.Prelude.{◌≡◌, ◌⊎◌, ℕ, List, Some, Ok}
 use Rattle.disk_lru.specs.declared.refusals.DiskFault.{DiskFault}
 use Rattle.disk_lru.specs.Past.{DiskState}
