@@ -1,0 +1,8 @@
+mod Evicting
+mod Fronts
+mod Joining
+mod Listed
+mod OpenEvents
+mod Opening
+mod Stepping
+mod Tokens

@@ -1,0 +1,15 @@
+//! The disk store: entries by key on a disk cache that several seats share, with one writer a key.
+#![tactic(auto)]
+
+mod disk;
+mod edits;
+mod envelopes;
+mod history;
+mod open;
+mod requests;
+mod state;
+mod stores;
+
+pub use envelopes::{envelope, payload_of};
+pub use store_world::{Chunk, Note, StoreEvent, StoreReply};
+pub use stores::{Store, StoreStart};
