@@ -14,6 +14,7 @@ use crate::{
 use std::alloc::{AllocError, Allocator, Global};
 use std::fs::OpenFile;
 use std::io::{BufRead, ErrorKind, Lines, Read, Write};
+use std::snapshot::Snapshot;
 use std::test::Fail;
 use std::{fs, io, process};
 
@@ -49,7 +50,8 @@ fn sources_tell_a_content_together(rt: HostRuntime) {
     let alloc = rt.alloc();
     let first = MemorySource::new(Vec::new(alloc), Vec::new(alloc));
     let second = MemorySource::new(Vec::new(alloc), Vec::new(alloc));
-    let _ = (told_by_two(first, second), Told::nothing());
+    let told = told_by_two(first, second);
+    let _ = (Told::shown_by(Snapshot::of(&told)), Told::nothing());
 }
 
 #[test]

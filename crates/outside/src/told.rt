@@ -42,6 +42,13 @@ impl<S: Source> SnapshotUpdate<S, Unsaid> for AlsoTells {
     ghost updated = { λ told source. agreed told (S.content source) };
 }
 
+// What a snapshot shows.
+struct Shown;
+
+impl SnapshotUpdate<Snapshot<Told>, Unsaid> for Shown {
+    ghost updated = { λ told shown. shown.value };
+}
+
 /// The content that sources tell, or nothing. It takes no bytes.
 ///
 /// It is there for contracts: what an engine or a disk cache speaks for is the content that all sources tell that it is used
@@ -93,6 +100,15 @@ impl Told {
         Told {
             content: agreed_by(sources),
         }
+    }
+
+    /// What a snapshot shows, which may have been changed by what else is known, as what files hold.
+    pub fn shown_by(shown: Snapshot<Told>) -> Told
+        ensures { result ≡ shown.value }
+    {
+        let mut content = Snapshot::of(&Unsaid {});
+        update_snapshot::<_, _, Shown>(&mut content, &shown);
+        Told { content }
     }
 }
 
