@@ -90,6 +90,11 @@ pub answer_left : (key : List ℕ) (es : Cached (List ℕ)) (steps : List (Cache
 answer_left key es [] h = refl
 answer_left key es (step ∷ steps) h = answer_left key (stepped es step) steps h.1 ∙ answer_stepped key es step h.0
 
+pub edit_begun : (key : List ℕ) (t : Table) → edit_at key (begun key t) ≡ Some 0
+edit_begun key t =
+    let k : Kept = record { len = len_at key t; edit = Some 0 } in
+    ap (option_and_then (λ (o : Kept). o.edit)) (found_newest key key k t ∙ ap (λ b. cond b (Some k) (value_at key t)) ((bytes_eq-Decides key key).1 refl))
+
 pub answer_committed : (key values : List ℕ) (es : Cached (List ℕ)) → answer_at key (stepped es (Commit key values)) ≡ Some values
 answer_committed key values es =
     let e : Entry (List ℕ) = record { values = Some values; marked = false } in
