@@ -1,9 +1,8 @@
 // What the words behind the program's name ask for.
 ghost use Rattle.std.specs.Prelude.{◌≡◌, not, ◌==◌, ◌&&◌, map, length};
-ghost use Rattle.std.specs.List.{list_all};
-ghost use Rattle.std.specs.Char.{is_ascii_digit};
-ghost use Rattle.script_lines.specs.Words.{is_whole};
 ghost use Rattle.glide_run.specs.Settings.{size, with_pool, with_memory, with_stats, and_size, filled, settings};
+
+use script_lines::is_whole;
 
 /// What the words ask for.
 #[derive(Clone, Copy, Debug, PartialEq, Eq)]
@@ -22,29 +21,6 @@ pub struct Said {
     pub pool: Option<u64>,
     pub memory: Option<u64>,
     pub stats: bool,
-}
-
-// Whether all bytes are digits.
-fn are_digits(word: &[u8]) -> bool
-    ensures { result ≡ list_all is_ascii_digit word.now }
-{
-    word.iter().all(|byte| byte.is_ascii_digit())
-}
-
-// Whether a word spells a whole number: digits without a leading zero, or `0`.
-fn is_whole(word: &[u8]) -> bool
-    ensures { result ≡ is_whole word.now }
-{
-    if word.is_empty() {
-        return false;
-    }
-    if !are_digits(word) {
-        return false;
-    }
-    if word.len() == 1 {
-        return true;
-    }
-    word[0] != b'0'
 }
 
 // The size in bytes that a word spells.

@@ -12,6 +12,7 @@ mod words;
 pub use commands::{Command, ScriptFault};
 pub use laws::further_words_in_any_order;
 pub use reader::ScriptReader;
+pub use words::is_whole;
 
 #[cfg(test)]
 mod tests;

@@ -50,8 +50,8 @@ fn are_digits(word: &[u8]) -> bool
     word.iter().all(|b| b.is_ascii_digit())
 }
 
-// Whether a word spells a whole number.
-fn is_whole(word: &[u8]) -> bool
+/// Whether a word spells a whole number: digits without a leading zero, or `0`.
+pub fn is_whole(word: &[u8]) -> bool
     ensures { result ≡ is_whole word.now }
 {
     if word.is_empty() {
