@@ -14,7 +14,8 @@ pub fn act(core: &mut Core, who: u32, event: Event) -> Reply
     requires served { who < length core.old.world.limits.quotas }
     requires untold { core.old.world.content ≡ None }
     requires permitted { Permits None (knowledge_in core.old.history who) event }
-    ensures own { knowledge_in core.new.history who ≡ updated event (noted result) (knowledge_in core.old.history who) }
+    ensures own { knowledge_in core.new.history who
+        ≡ updated event (noted result) (knowledge_in core.old.history who) }
     ensures acts { IsActOf who core.old core.new }
 {
     own_entries_append::<Note>();

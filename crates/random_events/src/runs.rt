@@ -312,7 +312,8 @@ pub fn random_sizes(draws: &mut Draws) -> Sizes {
 }
 
 fn quotas_of(alloc: Global, sizes: Sizes) -> Result<Vec<u32>, AllocError>
-    ensures { IfOk result (λ quotas. quotas.items ≡ sizes.first ∷ sizes.second ∷ sizes.third ∷ sizes.fourth ∷ []) }
+    ensures { IfOk result (λ quotas. quotas.items
+        ≡ sizes.first ∷ sizes.second ∷ sizes.third ∷ sizes.fourth ∷ []) }
 {
     Ok(vec![in alloc; sizes.first, sizes.second, sizes.third, sizes.fourth]?)
 }

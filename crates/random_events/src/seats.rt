@@ -115,7 +115,8 @@ impl Seat {
 
     /// The loads but that of this number.
     pub fn others(&self, alloc: Global, number: u64) -> Result<Vec<ListedLoad>, NoMemory>
-        ensures { IfOk result (λ kept. kept.items ≡ filter (λ load. not (load.number == number)) self.now.loads) }
+        ensures { IfOk result (λ kept. kept.items
+            ≡ filter (λ load. not (load.number == number)) self.now.loads) }
     {
         let kept = self.loads.iter().filter(|load| load.number != number);
         Ok(kept.copied().collect(alloc)?)
