@@ -57,8 +57,6 @@ pub record CacheLaws : Type 0 where
       → SameLength any (without key t) (stepped es (Drop key))
   pub length_others : (key other : List ℕ) (t : Table) (es gs : Cached (List ℕ)) → other ≢ key
       → without key gs ≡ without key es → SameLength other t es → SameLength other t gs
-  -- a key that is begun has an edit of no bytes
-  pub edit_begun : (key : List ℕ) (t : Table) → edit_at key (begun key t) ≡ Some 0
   -- the file of an edit has the length that the table says
   pub edit_length : (key : List ℕ) (n : ℕ) (f : Folder) (t : Table) → IsKept f t → edit_at key t ≡ Some n
       → length (text_at f (edit_name key)) ≡ n

@@ -10,6 +10,7 @@ ghost use Rattle.journal_lines.specs.declared.lines.Line.{Line};
 ghost use Rattle.disk_table.specs.Table.{replayed};
 ghost use Rattle.cache_folder.specs.Offered.{Replayed, journal_name, journal_tmp, journal_bkp, value_name, readable, offered};
 ghost use Rattle.cache_folder.specs.Journals.{Says};
+ghost use Rattle.cache_folder.specs.Tables.{Table, edit_at, begun};
 ghost use Rattle.cache_folder.specs.Steps.{Cached, CacheStep, stepped, all_stepped};
 ghost use Rattle.cache_folder.specs.Laws.{CacheLaws};
 ghost use Rattle.cache_folder.specs.Images.{Runs, IsOnTheWay, OffersEither};
@@ -63,3 +64,8 @@ pub fn calls_keep_others()
 {
     text_is_its_lines();
 }
+
+/// A key that is begun has an edit of no bytes.
+pub fn begun_edits_are_empty()
+    ensures { (key : List ℕ) (t : Table) → edit_at key (begun key t) ≡ Some 0 }
+{}

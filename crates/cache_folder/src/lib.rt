@@ -15,5 +15,8 @@ mod table;
 #[cfg(test)]
 mod worked;
 
-pub use laws::{calls_in_turn, calls_keep_others, line_is_written_at_once, start_offers_the_same};
+pub use laws::{
+    begun_edits_are_empty, calls_in_turn, calls_keep_others, line_is_written_at_once,
+    start_offers_the_same,
+};
 pub use table::CacheTable;

@@ -8,7 +8,7 @@ use Rattle.cache_folder.proofs.Allowed.{steps_pass, offers_pass}
 use Rattle.cache_folder.proofs.Apart.{journal-edit, value-edit, edit-edit, flip}
 use Rattle.cache_folder.proofs.Journaled.{JournalLaws}
 use Rattle.cache_folder.proofs.Lost.{lost_kept, lost_listed, lost_edit, lost_allowed}
-use Rattle.cache_folder.proofs.Lookups.{edit_begun, answer_committed, known_left, other_answer, answer_left, list_answers, answers_offered, length_begun, length_committed, length_dropped, length_aborted, length_used, length_written, length_others}
+use Rattle.cache_folder.proofs.Lookups.{answer_committed, known_left, other_answer, answer_left, list_answers, answers_offered, length_begun, length_committed, length_dropped, length_aborted, length_used, length_written, length_others}
 use Rattle.cache_folder.proofs.Kept.{edit_none, known_kept, few_kept}
 use Rattle.cache_folder.proofs.Mapped.{all_without, length_without, once_without, once_mapped}
 use Rattle.cache_folder.proofs.Calls.{fits_other, other_values, listed_without, listed_all, offered_sound, edit_fits}
@@ -51,7 +51,6 @@ returns c =
       length_written = length_written;
       length_dropped = length_dropped;
       length_others = length_others;
-      edit_begun = edit_begun;
       answer_committed = answer_committed;
       known_kept = λ key t. known_kept t key;
       known_left = λ key other t ne. known_left key other t ne;
