@@ -3,7 +3,6 @@ pub mod Calls
 pub mod Causes
 pub mod Content
 pub mod Files
-pub mod FolderFiles
 pub mod FolderPath
 pub mod FolderSource
 pub mod MemoryFiles

@@ -4,7 +4,6 @@
 mod calls;
 mod changes;
 mod files;
-mod folder_files;
 mod folder_path;
 mod folder_source;
 mod inputs;
@@ -21,7 +20,7 @@ mod told;
 
 pub use faults::{Failed, NoMemory};
 pub use files::{FileFault, Files};
-pub use folder_files::FolderFiles;
+pub use folder_path::is_part_name;
 pub use folder_source::{FolderSource, LONGEST_FILE};
 pub use inputs::Input;
 pub use memory_files::MemoryFiles;
@@ -36,7 +35,5 @@ pub use told::Told;
 
 #[cfg(test)]
 mod files_tests;
-#[cfg(test)]
-mod folder_files_tests;
 #[cfg(test)]
 mod tests;

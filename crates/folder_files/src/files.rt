@@ -6,11 +6,9 @@ ghost use Rattle.std.specs.Option.{option_map};
 ghost use Rattle.std.specs.Path.{path_buf_bytes, path_join};
 ghost use Rattle.outside.specs.Causes.{HasCause};
 ghost use Rattle.outside.specs.Files.{WhereKnown, IsListing, ReadsFile};
-ghost use Rattle.outside.specs.FolderFiles.{fresh_files, after_files_call, is_file_byte, names_file};
+ghost use Rattle.folder_files.specs.FolderFiles.{fresh_files, after_files_call, is_file_byte, names_file};
 
-use crate::files::{FileFault, Files};
-use crate::folder_path::is_part_name;
-use crate::names::Name;
+use outside::{FileFault, Files, Name, is_part_name};
 use std::alloc::{AllocError, Global};
 use std::fs::{self, DirEntry, OpenOptions};
 use std::io::{self, ErrorKind, Read, Seek, SeekFrom, Write};
@@ -41,7 +39,7 @@ pub struct FolderFiles<'a, R> {
 }
 
 impl<'a, R> Model for FolderFiles<'a, R> {
-    ghost use Rattle.outside.specs.FolderFiles.{FilesState};
+    ghost use Rattle.folder_files.specs.FolderFiles.{FilesState};
 
     ghost Value = { FilesState };
 

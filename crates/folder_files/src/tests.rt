@@ -1,8 +1,9 @@
 // What no clause says of the files of a folder: what the system's folder holds after each call.
 ghost use Rattle.std.specs.Prelude.{◌≡◌, ◌∷◌, [], codes, false, true};
-ghost use Rattle.outside.specs.FolderFiles.{names_file};
+ghost use Rattle.folder_files.specs.FolderFiles.{names_file};
 
-use crate::{FileFault, Files, FolderFiles, Name};
+use crate::FolderFiles;
+use outside::{FileFault, Files, Name};
 use std::alloc::Global;
 use std::test::Fail;
 use std::{fs, process};
@@ -37,7 +38,7 @@ fn sorted_names(
 #[test]
 fn files_of_a_folder_are_made_read_and_moved(rt: HostRuntime) -> Result<(), Fail> {
     let alloc = rt.alloc();
-    let above = format!(in alloc; "/tmp/outside_files_{}", process::id(rt.process()))?;
+    let above = format!(in alloc; "/tmp/folder_files_{}", process::id(rt.process()))?;
     let folder = format!(in alloc; "{above}/cache")?;
     let (a, b) = (name(b"a")?, name(b"b c")?);
     let mut files = FolderFiles::new(&rt, folder.as_str());

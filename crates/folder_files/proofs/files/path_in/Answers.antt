@@ -1,7 +1,7 @@
 use Rattle.std.proofs.Common.{subst, sym}
 use Rattle.std.specs.Str.{IsAscii}
 use Rattle.std.proofs.lemmas.Str.{IsUtf8-from_ascii}
-use Rattle.outside.proofs.folder_files.path_in.Goals as goal
+use Rattle.folder_files.proofs.files.path_in.Goals as goal
 
 -- a name is ASCII, and so UTF-8
 pub returns-in-Err-clause-path : goal.returns-in-Err-clause-path
