@@ -3,6 +3,7 @@
 #![tactic(auto)]
 
 mod bitmaps;
+mod disk;
 mod rows;
 mod samples;
 mod timing;
@@ -22,6 +23,7 @@ fn time<R: Runtime + Threads + Wait + Sync>(rt: &R, alloc: Global, mode: &str) -
         "samples" => samples::time(rt, alloc),
         "bitmaps" => bitmaps::time(rt, alloc),
         "turns" => turns::time(rt, alloc),
+        "disk" => disk::time(rt, alloc),
         _ => {
             println!(rt; "no such mode: {mode}")?;
             Ok(())
