@@ -1,9 +1,8 @@
 -- Evictions, one after the other.
-use Rattle.std.proofs.Common.{◌≡◌, ℕ, ◌+◌, ◌<◌, ◌≤◌, Bool, true, false, cond, List, [], ◌∷◌, ◌++◌, length, Some, None, Ok, Err, Result, Option, refl, ap, sym, subst, ◌∙◌, arith}
-use Rattle.std.specs.Prelude.{is_some, IfSome, IsSome, ⊤}
+use Rattle.std.proofs.Common.{◌≡◌, ℕ, ◌<◌, ◌≤◌, true, false, cond, List, [], ◌∷◌, length, Some, None, Ok, Option, refl, sym, subst, arith}
+use Rattle.std.specs.Prelude.{is_some, IfSome}
 use Rattle.std.specs.Str.{bytes_eq}
 use Rattle.disk_table.specs.UseOrder.{without, value_at, is_known}
-use Rattle.disk_lru.specs.declared.refusals.DiskFault.{DiskFault}
 use Rattle.disk_lru.specs.State.{entries}
 use Rattle.disk_lru.specs.Past.{DiskState}
 use Rattle.disk_lru.specs.Trims.{Trims}

@@ -1,8 +1,7 @@
 -- The events of an open store: from what its parts did to the step of the world, and to what the store keeps.
-use Rattle.std.proofs.Common.{◌≡◌, ◌≢◌, ℕ, ◌<◌, Bool, true, false, cond, List, [], ◌∷◌, ◌++◌, length, get_or, set, Some, None, Ok, Err, Result, Option, refl, ap, sym, subst, ◌∙◌, arith}
-use Rattle.std.specs.Prelude.{is_some, is_err, IsOk, IsSomeAnd, ⊤}
+use Rattle.std.proofs.Common.{◌≡◌, ◌≢◌, ℕ, Bool, true, false, List, [], ◌∷◌, ◌++◌, length, get_or, Some, None, Ok, Err, Result, Option, refl, ap, sym, subst, ◌∙◌}
+use Rattle.std.specs.Prelude.{is_err, IsOk, IsSomeAnd, ⊤}
 use Rattle.std.specs.Option.{option_map}
-use Rattle.std.proofs.lemmas.List.{get_or-set_same, get_or-set_other, length-set}
 use Rattle.state_machine.specs.declared.entry.Entry.{Entry}
 use Rattle.disk_table.specs.Table.{edit_of}
 use Rattle.cache_folder.specs.Tables.{is_offered}
@@ -10,23 +9,21 @@ use Rattle.disk_lru.specs.declared.refusals.DiskFault.{DiskFault}
 use Rattle.disk_lru.specs.State.{EditValue, IsOpen, edits, entries}
 use Rattle.disk_lru.specs.Past.{DiskState}
 use Rattle.store_world.specs.declared.events.StoreEvent.{StoreEvent}
-use Rattle.store_world.specs.declared.events.StoreEvent.TheVariants as events
 use Rattle.store_world.specs.declared.events.StoreReply.{StoreReply}
 use Rattle.store_world.specs.declared.events.StoreReply.TheVariants as replies
 use Rattle.store_world.specs.declared.events.Note.{Note}
-use Rattle.store_world.specs.World.{SeatEdit, Request, Requests, World, request_of, with_request, without_seat, has_lock}
-use Rattle.store_world.specs.DiskCalls.{Begins, Writes, Commits, Aborts, EvictsAll}
+use Rattle.store_world.specs.World.{SeatEdit, Request, Requests, World, request_of, with_request}
+use Rattle.store_world.specs.DiskCalls.{Writes, Commits, Aborts, EvictsAll}
 use Rattle.store_world.specs.Steps as steps
 use Rattle.store_world.specs.Steps.{IsOutcome, want, with_own, with_own_on, with_requests, new_request, granted_if, begun_with, with_edit, new_edit, edit_after, done, Transition}
 use Rattle.store_world.specs.Knowledge.{knowledge_in}
-use Rattle.store_world.specs.Permits.{HasEdit, HasOpenEdit}
 use Rattle.store_world.specs.Sound.{Sound}
 use Rattle.store_world.specs.Laws.{KeepsNumbers, KeepsSettings}
 use Rattle.disk_store.specs.DiskEvents.{BeginsUnlessFailed, BeginsAfterEvicting, EvictsUnlessFailed, EvictsAfterCommit}
-use Rattle.disk_store.specs.Requests.{change, begun_edit_if, written_if, written_to}
+use Rattle.disk_store.specs.Requests.{change, written_if, written_to}
 use Rattle.disk_store.specs.StoreView.{MayStep, IsToken, TokensAgree}
 use Rattle.disk_store.specs.OpenView.{IsOpenStore}
-use Rattle.disk_store.proofs.Tokens.{own_changed, others_same, change_is, keeps_tokens, none_own, with_it}
+use Rattle.disk_store.proofs.Tokens.{own_changed, change_is, keeps_tokens, with_it}
 
 -- ---- requests
 

@@ -1,11 +1,9 @@
 -- What a store opens with.
-use Rattle.std.proofs.Common.{◌≡◌, ℕ, Bool, true, false, cond, List, [], ◌∷◌, ◌++◌, Some, None, Option, refl, ap, sym, subst, ◌∙◌, append_assoc, inl, inr}
-use Rattle.std.specs.Prelude.{◌||◌}
-use Rattle.std.specs.List.{AllByRecursion, list_any}
+use Rattle.std.proofs.Common.{◌≡◌, ℕ, true, false, List, [], ◌∷◌, ◌++◌, Some, Option, refl, ap, sym, subst, ◌∙◌, append_assoc}
 use Rattle.std.proofs.lemmas.Bool.{and_from, or_left, or_right}
 use Rattle.std.proofs.lemmas.Slice.Eq.{bytes_eq-Decides}
 use Rattle.outside.specs.Content.{Contents}
-use Rattle.outside.specs.Files.{Folder, FolderHistory, passed_through}
+use Rattle.outside.specs.Files.{Folder, FolderHistory}
 use Rattle.disk_table.specs.UseOrder.{IsOnce}
 use Rattle.cache_folder.specs.Offered.{offered}
 use Rattle.cache_folder.specs.Images.{WasKnown, Runs}
@@ -13,10 +11,9 @@ use Rattle.cache_folder.specs.Starts.{HasNoEdits}
 use Rattle.cache_folder.specs.Allowed.{Pass, values_of}
 use Rattle.cache_folder.specs.Sound.{listed}
 use Rattle.disk_lru.specs.State.{entries}
-use Rattle.disk_lru.specs.Past.{PastValue, DiskState, Promise, OffersGiven, is_pair, is_among, given}
+use Rattle.disk_lru.specs.Past.{PastValue, DiskState, Promise, is_pair, is_among, given}
 use Rattle.disk_lru.specs.Started.{IsFresh, OffersNoMore}
 use Rattle.store_world.specs.Right.{Pair}
-use Rattle.store_world.specs.World.{World}
 use Rattle.store_world.specs.StoreMachine.{IsOpening}
 use Rattle.disk_store.specs.StoreView.{off_world}
 

@@ -1,26 +1,19 @@
 -- The edits that seats have, through the events.
-use Rattle.std.proofs.Common.{◌≡◌, ◌≢◌, ℕ, ◌<◌, Bool, true, false, cond, eqb, List, [], ◌∷◌, ◌++◌, length, get_or, Some, None, Ok, Err, Result, Option, refl, ap, sym, subst, ◌∙◌, inl, inr, ⊎_elim}
+use Rattle.std.proofs.Common.{◌≡◌, ◌≢◌, ℕ, true, false, cond, eqb, List, [], ◌∷◌, ◌++◌, length, get_or, Some, None, Ok, Err, Result, Option, refl, ap, sym, subst, ◌∙◌, inl, inr}
 use Rattle.std.specs.Prelude.{is_some, not, ◌&&◌, IsSomeAnd}
 use Rattle.std.specs.List.{AllByRecursion}
-use Rattle.std.proofs.lemmas.Bool.{eqb-true, eqb-false, cases_Bool, and_parts, not-true, ne_eqb, eq-eqb}
-use Rattle.state_machine.specs.declared.entry.Entry.{Entry}
+use Rattle.std.proofs.lemmas.Bool.{eqb-true, eqb-false, cases_Bool, and_parts, ne_eqb, eq-eqb}
 use Rattle.disk_table.specs.Table.{edit_of}
-use Rattle.cache_folder.specs.Tables.{closed_at, is_offered, len_at, edit_at}
+use Rattle.cache_folder.specs.Tables.{closed_at, len_at, edit_at}
 use Rattle.disk_lru.specs.declared.refusals.DiskFault.{DiskFault}
 use Rattle.disk_lru.specs.State.{EditValue, edits, entries}
 use Rattle.disk_lru.specs.Past.{DiskState}
-use Rattle.store_world.specs.declared.events.StoreEvent.{StoreEvent}
-use Rattle.store_world.specs.declared.events.StoreReply.{StoreReply}
-use Rattle.store_world.specs.declared.events.Note.{Note}
 use Rattle.store_world.specs.World.{SeatEdit, Request, Requests, World, request_of, with_request, without_seat}
 use Rattle.store_world.specs.DiskCalls.{Gets}
-use Rattle.store_world.specs.Steps.{Transition}
-use Rattle.store_world.specs.Knowledge.{Knowledge, knowledge_in}
-use Rattle.store_world.specs.Permits.{HasRequest}
+use Rattle.store_world.specs.Knowledge.{Knowledge}
 use Rattle.store_world.specs.Sound.{IsSeated, Sound}
-use Rattle.store_world.specs.Laws.{KeepsNumbers}
 use Rattle.disk_store.specs.Requests.{change, changed_by}
-use Rattle.disk_store.specs.StoreView.{MayStep, IsToken, TokensAgree}
+use Rattle.disk_store.specs.StoreView.{IsToken, TokensAgree}
 
 -- ---- requests
 

@@ -1,16 +1,16 @@
 -- What contracts see of a store, and what it keeps whatever its seats do. It is this project's own.
-use Rattle.std.specs.Prelude.{◌≡◌, List, [], Some}
+use Rattle.std.specs.Prelude.{◌≡◌, true, List, [], Some}
 use Rattle.std.specs.declared.option.Option.{Option}
 use Rattle.outside.specs.Files.{FolderHistory}
 use Rattle.outside.specs.Content.{Contents}
 use Rattle.state_machine.specs.declared.entry.Entry.{Entry}
 use Rattle.cache_folder.specs.Images.{IfKnown, Runs}
 use Rattle.store_world.specs.declared.events.Note.{Note}
-use Rattle.store_world.specs.Right.{OffersRight}
+use Rattle.store_world.specs.Right.{OffersRight, HoldsRightIn}
 use Rattle.store_world.specs.World.{World}
 use Rattle.store_world.specs.Knowledge.{knowledge_in}
 use Rattle.store_world.specs.Sound.{Sound}
-use Rattle.store_world.specs.StoreMachine.{IsOpening}
+use Rattle.store_world.specs.StoreMachine.{IsOpening, BeganRight}
 use Rattle.store_world.specs.Laws.{SameSettings}
 
 pub record StoreValue : Type 0 where
@@ -31,10 +31,15 @@ OffersRightSince before w = (content : Contents) → w.content ≡ Some content
 pub record IsStore (before : Option FolderHistory) (opening world : World) (history : List (Entry Note)) : Type 0 where
   -- it began with what the files offered
   pub opens : IsOpening opening.content before opening
+  -- where it is not off, they offered only what is right
+  pub began_right : BeganRight opening.content before opening
   pub settings : SameSettings opening world
   -- its world is sound with what the seats know by the history
   pub sound : Sound world (knowledge_in history)
-  pub right : OffersRightSince before world
+  -- where they did, they have done so at each moment since
+  pub right : HoldsRightIn opening.content before → OffersRightSince before world
+  -- nothing of a store that is off has changed, nor have its files
+  pub untouched : world.off ≡ true → world ≡ opening
 
 -- A store that has made no step, in this world.
 pub record IsFresh (before : Option FolderHistory) (world : World) (store : StoreValue) : Type 0 where

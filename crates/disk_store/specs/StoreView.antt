@@ -8,7 +8,6 @@ use Rattle.disk_table.specs.Table.{edit_of}
 use Rattle.disk_lru.specs.State.{EditValue, edits}
 use Rattle.disk_lru.specs.Past.{DiskState}
 use Rattle.store_world.specs.declared.events.StoreEvent.{StoreEvent}
-use Rattle.store_world.specs.declared.events.StoreReply.{StoreReply}
 use Rattle.store_world.specs.declared.events.Note.{Note}
 use Rattle.store_world.specs.World.{SeatEdit, Request, Requests, World, request_of}
 use Rattle.store_world.specs.Knowledge.{knowledge_in}

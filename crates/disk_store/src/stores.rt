@@ -9,7 +9,7 @@ ghost use Rattle.store_world.specs.Knowledge.{knowledge_in};
 ghost use Rattle.store_world.specs.Permits.{Permits};
 ghost use Rattle.store_world.specs.Sound.{seat_count};
 ghost use Rattle.store_world.specs.Steps.{Transition};
-ghost use Rattle.store_world.specs.StoreMachine.{IsOpening, noted};
+ghost use Rattle.store_world.specs.StoreMachine.{IsOpening, BeganRight, noted};
 ghost use Rattle.disk_store.specs.StoreView.{off_world};
 ghost use Rattle.disk_store.specs.Kept.{IsStore, IsFresh};
 
@@ -25,7 +25,8 @@ use std::marker::Model;
 use std::snapshot::Snapshot;
 use store_world::{
     Note, StoreEvent, StoreReply, each_event_keeps_settings, each_event_keeps_sound,
-    each_history_offers_what_is_right, each_moment_offers_what_is_right, openings_are_sound,
+    each_event_keeps_what_is_off, each_history_offers_what_is_right,
+    each_moment_offers_what_is_right, openings_are_sound,
 };
 
 /// The disk store: entries by key on a disk cache that up to 16 seats share. One seat at a time has a key's write lock, in the
@@ -78,7 +79,7 @@ fn no_history(alloc: Global) -> History
 // A store that has made no step.
 fn fresh<F: Files>(alloc: Global, state: StoreState<F>, before: Snapshot<F>) -> Store<F>
     requires opens { IsOpening state.content (F.history before.value) state }
-    requires right { HoldsRightIn state.content (F.history before.value) }
+    requires right { BeganRight state.content (F.history before.value) state }
     ensures { IsFresh (F.history before.value) state result }
 {
     openings_are_sound();
@@ -150,9 +151,8 @@ impl<F: Files> Store<F> {
         }
     }
 
-    /// A store that is off for its whole life.
+    /// A store that is off for its whole life. It makes no call on its files, so these may hold anything.
     pub fn off(alloc: Global, files: F, told: Told) -> Store<F>
-        requires { HoldsRightIn told (F.history files) }
         ensures { IsFresh (F.history files) (off_world (F.history files) (F.faults files) told) result }
     {
         let before = Snapshot::of(&files);
@@ -190,6 +190,7 @@ impl<F: Files> Store<F> {
     {
         each_event_keeps_sound();
         each_event_keeps_settings();
+        each_event_keeps_what_is_off();
         each_moment_offers_what_is_right();
         own_entries_append::<Note>();
         let shown = Snapshot::of(&event);
@@ -199,8 +200,9 @@ impl<F: Files> Store<F> {
     }
 
     /// Whatever its seats did, a store's world is sound for what they know; its content and the greatest size of its disk cache
-    /// are those that it began with; and where it speaks for a content, its files have offered only what is right under it at each
-    /// moment since the store was made.
+    /// are those that it began with; and where it speaks for a content, and its files held what is right under it when it was
+    /// made, they have offered only what is right at each moment since. They did hold that unless the store is off. A store that
+    /// is off stays as it began, with its files.
     pub fn is_in_order(&self)
         ensures { IsStore self.now.before self.now.opening self.now.world self.now.history }
     {

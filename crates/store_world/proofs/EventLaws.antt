@@ -161,7 +161,7 @@ begun_by (Ok edit) w z known who reply request d s knows at first g none begins 
     (subst (Moved request.key (Some 0) (entries w.disk.cache)) (sym (begins.ok refl)) (moved_newest request.key record { len = len_at request.key (entries w.disk.cache); edit = Some 0 } (entries w.disk.cache) s.once))
     (renumbered_begun request.key edit w.disk.cache d.cache begins.key_is begins.open_ closed begins.free begins.edits_are))
     (λ k is own has open_. begins.empty refl k is ∙ written own has)
-    (right_kept w.content w.disk d (allows_passage (begin_steps request.key) w.disk d makes.call.passage) s.right) (ap (option_map (begun_with (Some new_edit))) knows)) where
+    (λ on. right_kept w.content w.disk d (allows_passage (begin_steps request.key) w.disk d makes.call.passage) (s.right on)) (ap (option_map (begun_with (Some new_edit))) knows)) where
       written : (own : SeatEdit) → Some new_edit ≡ Some own → [] ≡ own.written
       written own e = let same : new_edit ≡ own = cc in ap (λ (x : SeatEdit). x.written) same
 begun_by (Err fault) w z known who reply request d s knows at first g none begins by =
@@ -169,7 +169,7 @@ begun_by (Err fault) w z known who reply request d s knows at first g none begin
     let fails = begins.fails refl in
     from_outcome known who events.Begin (replies.Fault fault) reply (with_own_on d who request' w) z by
     (by_first w known who events.Begin (replies.Fault fault) request request' d s at first refl (no_edit request' refl) (failed_moves request.key (begin_steps request.key) w known d s fails)
-    (λ k is. no_file k.held request' refl) (right_kept w.content w.disk d (allows_passage (begin_steps request.key) w.disk d fails.call.passage) s.right) (ap (option_map (begun_with None)) knows))
+    (λ k is. no_file k.held request' refl) (λ on. right_kept w.content w.disk d (allows_passage (begin_steps request.key) w.disk d fails.call.passage) (s.right on)) (ap (option_map (begun_with None)) knows))
 
 begun_over : (result : Result EditValue DiskFault) (w z : World) (who : ℕ) (reply : StoreReply) (request : Request) (d e : DiskState) → IsOutcome reply z (begun_edit w who request e result) → IsOutcome reply z (begun_edit (with_disk d w) who request e result)
 begun_over (Ok x) w z who reply request d e by = by
@@ -220,7 +220,7 @@ written_by (Ok x) bytes w z known who reply request edit d s knows at first g ho
     let before = makes.call.passage.known k is in
     let file = s.files before.0 before.1 who request at edit has open_ in
     writes.text refl before.0 before.1 k is ∙ ap (λ (t : List ℕ). t ++ bytes) file ∙ written own own_is)
-    (right_kept w.content w.disk d (allows_passage no_steps w.disk d makes.call.passage) s.right)
+    (λ on. right_kept w.content w.disk d (allows_passage no_steps w.disk d makes.call.passage) (s.right on))
     (ap (option_map (λ (r : Request). with_edit (option_map (more_written bytes) r.edit) r)) knows ∙ ap (λ e. Some (with_edit (option_map (more_written bytes) e) request)) has)) where
       written : (own : SeatEdit) → Some (more_written bytes edit) ≡ Some own → edit.written ++ bytes ≡ own.written
       written own e = let same : more_written bytes edit ≡ own = cc in ap (λ (x : SeatEdit). x.written) same
@@ -232,7 +232,7 @@ written_by (Err fault) bytes w z known who reply request edit d s knows at first
     (record { granted = λ no. let bad : true ≡ false = sym g ∙ no in cc; begun = λ no. let bad : None ≡ Some edit = sym (holding.begun no) ∙ has in cc })
     (failed_moves request.key no_steps w known d s fails)
     (λ k is own own_is own_open. let bad : Some true ≡ Some false = ap (option_map (λ (x : SeatEdit). x.closed)) own_is ∙ ap Some own_open in cc)
-    (right_kept w.content w.disk d (allows_passage no_steps w.disk d fails.call.passage) s.right)
+    (λ on. right_kept w.content w.disk d (allows_passage no_steps w.disk d fails.call.passage) (s.right on))
     (ap (option_map (λ (r : Request). with_edit (option_map closed_edit r.edit) r)) knows ∙ ap (λ e. Some (with_edit (option_map closed_edit e) request)) has))
 
 write_law : (bytes : List ℕ) → KeepsSound (events.Write bytes)
@@ -259,7 +259,7 @@ commit_allows (Ok x) key old new c = allows_passage (commit_steps key) old new (
 commit_allows (Err fault) key old new c = allows_passage (commit_steps key) old new (c.fails refl).call.passage
 
 committed_by : (result : Result ⊤ DiskFault) (w z : World) (known : ℕ → Knowledge) (who : ℕ) (reply : StoreReply) (request : Request) (edit : SeatEdit) (d : DiskState) → Sound w known → known who ≡ Some request → request_of who w.requests ≡ Some request
-    → First who request.key w.requests → request.edit ≡ Some edit → edit.closed ≡ false → IsRightStore w.content d → Commits request.key w.disk result d → CommitAfter result w who request d reply z → Sound z (knowledge_with known who events.Commit reply)
+    → First who request.key w.requests → request.edit ≡ Some edit → edit.closed ≡ false → (w.off ≡ false → IsRightStore w.content d) → Commits request.key w.disk result d → CommitAfter result w who request d reply z → Sound z (knowledge_with known who events.Commit reply)
 committed_by (Ok x) w z known who reply request edit d s knows at first has open_ right commits by =
     let request' = with_edit None request in
     let now : edit_at request.key (entries w.disk.cache) ≡ Some (length edit.written) = length_of_first w known who request s at first ∙ open_is request.edit edit has open_ in
@@ -285,7 +285,7 @@ commit_law w z known who reply small s permits does =
     let at = sym (s.known_is who) ∙ h.knows in
     let first = first_of_granted who h.request w.requests s.orderly at (open_granted h.request h.edit (found_request IsHolding who h.request w.requests s.holding at) h.has) in
     let d = with_open (λ r e. Commit w who r reply z) w who h.request h.edit at h.has does in
-    let right = commit_right w.content h.request.key h.edit.written w.disk d.1 (commit_allows d.0 h.request.key w.disk d.1 d.2) (λ k told. s.files k told who h.request at h.edit h.has permits.0.open_) permits.1 s.right in
+    let right = λ (on : w.off ≡ false). commit_right w.content h.request.key h.edit.written w.disk d.1 (commit_allows d.0 h.request.key w.disk d.1 d.2) (λ k told. s.files k told who h.request at h.edit h.has permits.0.open_) permits.1 (s.right on) in
     committed_by d.0 w z known who reply h.request h.edit d.1 s h.knows at first h.has permits.0.open_ right d.2 d.3
 
 -- ---- GiveUp and Done
@@ -320,7 +320,7 @@ give_up_by false w z known who reply request edit s knows at first has closed do
     let request' = with_edit None request in
     from_outcome known who events.GiveUp (done does.0) reply (with_own_on does.1 who request' w) z does.3
     (by_first w known who events.GiveUp (done does.0) request request' does.1 s at first refl (no_edit request' refl) (abort_moves does.0 request.key w known does.1 s does.2)
-    (λ k is. no_file k.held request' refl) (right_kept w.content w.disk does.1 (abort_allows does.0 request.key w.disk does.1 does.2) s.right) (ap (option_map (with_edit None)) knows))
+    (λ k is. no_file k.held request' refl) (λ on. right_kept w.content w.disk does.1 (abort_allows does.0 request.key w.disk does.1 does.2) (s.right on)) (ap (option_map (with_edit None)) knows))
 
 give_up_law : KeepsSound events.GiveUp
 give_up_law w z known who reply small s h does =

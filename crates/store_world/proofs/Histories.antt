@@ -30,14 +30,15 @@ use Rattle.store_world.specs.Steps.{Step}
 use Rattle.store_world.specs.Knowledge.{Knowledge, no_knowledge, updated, updated_by, learned, knowledge_in, knowledge_with}
 use Rattle.store_world.specs.Permits.{Permits}
 use Rattle.store_world.specs.Sound.{one_if, seat_count, taken, keys_under_edit, IsSeated, IsOrderly, IsHolding, open_at, open_count, IsRightDisk, IsRightStore, Sound}
-use Rattle.store_world.specs.StoreMachine.{IsOpening, store_machine}
+use Rattle.store_world.specs.StoreMachine.{IsOpening, BeganRight, store_machine}
 use Rattle.store_world.specs.Laws.{handed_by_event, PassesRight}
-use Rattle.store_world.specs.Histories.{committed_after, committed_in, AlwaysSound, AlwaysRight, AlwaysGiven, IsRun, RunsStayRight}
-use Rattle.store_world.proofs.Allowed.{some_folder, runs_then, runs_none, runs_weaken, among_has, all_among, all_front, all_back, allows_same, weaken}
+use Rattle.store_world.specs.Histories.{committed_after, committed_in, AlwaysSound, AlwaysOff, AlwaysRight, AlwaysGiven, IsRun, RunsStayRight}
+use Rattle.store_world.proofs.Allowed.{some_folder, runs_then, runs_weaken, among_has, all_among, all_front, all_back, allows_same, weaken}
 use Rattle.store_world.proofs.Quiet.{closed_kept}
 use Rattle.store_world.proofs.EventLaws.{event_law}
-use Rattle.store_world.proofs.Within.{event_allows, right_in, right_law}
+use Rattle.store_world.proofs.Within.{event_allows, right_still, right_law}
 use Rattle.store_world.proofs.Settings.{settings_law}
+use Rattle.store_world.proofs.Off.{off_law}
 
 -- ---- the opening
 
@@ -61,7 +62,7 @@ right_at_opening : (content : Option Contents) (before : Option FolderHistory) (
 right_at_opening None before w o holds = tt
 right_at_opening (Some content) before w o holds = (opening_right content before w o holds).0
 
-pub opening_sound : (content : Option Contents) (before : Option FolderHistory) (w : World) → IsOpening content before w → HoldsRightIn content before → Sound w (λ who. no_knowledge)
+pub opening_sound : (content : Option Contents) (before : Option FolderHistory) (w : World) → IsOpening content before w → BeganRight content before w → Sound w (λ who. no_knowledge)
 opening_sound content before w o holds =
     let free : (key : List ℕ) → edit_of key (edits w.disk.cache) ≡ None = λ key. ap (edit_of key) o.free in
     record {
@@ -78,7 +79,7 @@ opening_sound content before w o holds =
       };
       once = o.once;
       files = λ k is who request found. let bad : None ≡ Some request = ap (request_of who) (sym o.no_requests) ∙ found in cc;
-      right = subst (λ c. IsRightStore c w.disk) (sym o.content_is) (right_at_opening content before w o holds);
+      right = λ on. subst (λ c. IsRightStore c w.disk) (sym o.content_is) (right_at_opening content before w o (holds on));
       off = λ is. o.no_requests;
       known_is = λ who. ap (request_of who) (sym o.no_requests);
     }
@@ -159,7 +160,7 @@ module _ {M : Type 0} (opening now : M → World) (history : M → List (Entry N
   }
 
   -- after a legal history the world is sound, and has the content that it opened with
-  pub sound_after : (content : Option Contents) (before : Option FolderHistory) (w z : World) (past : List (Entry Note)) → IsOpening content before w → HoldsRightIn content before → IsLegal machine w past z
+  pub sound_after : (content : Option Contents) (before : Option FolderHistory) (w z : World) (past : List (Entry Note)) → IsOpening content before w → BeganRight content before w → IsLegal machine w past z
       → Sound z (knowledge_in past) × (z.content ≡ content)
   sound_after content before w z past o holds legal =
       let both = through (λ a b. b.content ≡ a.content) (λ w k e. ⊤) content_carried content [] past w z o.content_is (opening_sound content before w o holds) legal.leads
@@ -169,35 +170,57 @@ module _ {M : Type 0} (opening now : M → World) (history : M → List (Entry N
   pub always_sound : AlwaysSound opening now history
   always_sound content before w z past o holds legal = (sound_after content before w z past o holds legal).0
 
-  -- where the content is told, each moment offers only what is right
+  -- what is off stays as it is
+  abbrev StaysOff : World → World → Type 0
+  StaysOff a b = a.off ≡ true → b ≡ a
+
+  off_carried : Carried StaysOff (λ w k e. ⊤)
+  off_carried = record {
+    here = λ w known s off. refl;
+    then_ = λ a b c x y off. let first = x off in y (ap (λ (v : World). v.off) first ∙ off) ∙ first;
+    step = λ w z known e small s permits asked step off. off_law e.note.event w z known e.by e.note.reply s off step;
+  }
+
+  pub always_off : AlwaysOff opening now history
+  always_off content before w z past o off legal =
+      let began : BeganRight content before w = λ on. let bad : true ≡ false = sym off ∙ on in cc in
+      (through StaysOff (λ w k e. ⊤) off_carried content [] past w z o.content_is (opening_sound content before w o began) legal.leads
+      (λ xs ys e at. let may = legal.asked xs ys e at in (may.seat, subst (λ c. Permits c (knowledge_in xs e.by) e.note.event) o.content_is may.asked)) (λ xs ys e between at l. tt)).1 off
+
+  -- where the content is told and the files hold what is right, each moment offers only what is right
   abbrev StaysRight : World → World → Type 0
-  StaysRight a b = (content : Contents) → a.content ≡ Some content → (b.content ≡ Some content) × PassesRight content a.disk b.disk
+  StaysRight a b = (content : Contents) → a.content ≡ Some content → HoldsRight content a.disk.cache.history → (b.content ≡ Some content) × PassesRight content a.disk b.disk
 
   passes_then : (content : Contents) (a b c : World) → PassesRight content a.disk b.disk → PassesRight content b.disk c.disk → PassesRight content a.disk c.disk
   passes_then content a b c x y h known =
       let first = x h known in
       runs_then (OffersRight content) h b.disk.cache.history c.disk.cache.history first (y (passed_through first.contents h) first.after_is)
 
+  holds_then : (content : Contents) (a b : World) → HoldsRight content a.disk.cache.history → PassesRight content a.disk b.disk → HoldsRight content b.disk.cache.history
+  holds_then content a b holds passes =
+      let runs = passes holds.history holds.known in
+      record { history = passed_through runs.contents holds.history; known = runs.after_is; right = runs.here }
+
   pub right_carried : Carried StaysRight (λ w k e. ⊤)
   right_carried = record {
-    here = λ w known s content is. (
-      is,
-      λ h k. let right = right_in content w known is s in
-          runs_none (OffersRight content) h w.disk.cache.history k (subst (λ (j : FolderHistory). OffersRight content j.held) (some_folder right.holds.history h (sym right.holds.known ∙ k)) right.holds.right),
-    );
-    then_ = λ a b c x y content is. let first = x content is in let second = y content first.0 in (second.0, passes_then content a b c first.1 second.1);
-    step = λ w z known e small s permits asked step content is. (
+    here = λ w known s content is holds. (is, right_still content w.disk holds);
+    then_ = λ a b c x y content is holds.
+        let first = x content is holds in
+        let second = y content first.0 (holds_then content a b holds first.1) in
+        (second.0, passes_then content a b c first.1 second.1);
+    step = λ w z known e small s permits asked step content is holds. (
       (settings_law e.note.event w z e.by e.note.reply step).content ∙ is,
-      right_law e.note.event content w z known e.by e.note.reply is s permits step,
+      right_law e.note.event content w z known e.by e.note.reply is holds s permits step,
     );
   }
 
   pub always_right : AlwaysRight opening now history
   always_right content before w z past o holds legal h known =
-      let start = (opening_right content before w o holds).1 in
+      let opened = opening_right content before w o holds in
+      let start = opened.1 in
       let first = subst (λ (j : FolderHistory). Runs (OffersRight content) j w.disk.cache.history) (some_folder holds.history h (sym holds.known ∙ known)) start in
-      let all = (through StaysRight (λ w k e. ⊤) right_carried (Some content) [] past w z o.content_is (opening_sound (Some content) before w o holds) legal.leads
-      (λ xs ys e at. let may = legal.asked xs ys e at in (may.seat, subst (λ c. Permits c (knowledge_in xs e.by) e.note.event) o.content_is may.asked)) (λ xs ys e between at l. tt)).1 content o.content_is in
+      let all = (through StaysRight (λ w k e. ⊤) right_carried (Some content) [] past w z o.content_is (opening_sound (Some content) before w o (λ on. holds)) legal.leads
+      (λ xs ys e at. let may = legal.asked xs ys e at in (may.seat, subst (λ c. Permits c (knowledge_in xs e.by) e.note.event) o.content_is may.asked)) (λ xs ys e between at l. tt)).1 content o.content_is opened.0.holds in
       runs_then (OffersRight content) h w.disk.cache.history z.disk.cache.history first (all.1 (passed_through first.contents h) first.after_is)
 
   -- ---- what was offered and what is committed

@@ -9,6 +9,7 @@ pub mod Entries
 pub mod Within
 pub mod Begins
 pub mod Settings
+pub mod Off
 pub mod Histories
 pub mod Staying
 pub mod Deciding

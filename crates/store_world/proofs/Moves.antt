@@ -96,7 +96,7 @@ same_text found held same = ap (λ (o : Option (List ℕ)). unwrap_or o []) same
 pub by_first : (w : World) (known : ℕ → Knowledge) (who : ℕ) (event : StoreEvent) (reply : StoreReply) (request request' : Request) (d : DiskState)
     → Sound w known → request_of who w.requests ≡ Some request → First who request.key w.requests → request'.key ≡ request.key → IsHolding request'
     → CallMoves request.key (open_length request'.edit) w.disk d → IfKnown d.cache.history (λ k. HasFile k.held request')
-    → IsRightStore w.content d → updated event reply (known who) ≡ Some request'
+    → (w.off ≡ false → IsRightStore w.content d) → updated event reply (known who) ≡ Some request'
     → Sound (with_own_on d who request' w) (knowledge_with known who event reply)
 by_first w known who event reply request request' d s at first key holding m mine right after_is =
     let opened = opened_as who request request' w.requests at first key in
@@ -142,7 +142,7 @@ by_quiet w known d s call = record {
       let before = call.known g is in
       let under = under_edit w known s k other edit found has open_ in
       same_text (get g.held (edit_name other.key)) (get before.0.held (edit_name other.key)) (call.files before.0 before.1 g is other.key under.numbered) ∙ s.files before.0 before.1 k other found edit has open_;
-  right = right_kept w.content w.disk d call.allows s.right;
+  right = λ on. right_kept w.content w.disk d call.allows (s.right on);
   off = s.off;
   known_is = s.known_is;
 }

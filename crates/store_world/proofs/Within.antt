@@ -5,6 +5,7 @@ use Rattle.std.specs.declared.option.Option.{Option}
 use Rattle.std.specs.List.{AllByRecursion}
 use Rattle.std.specs.Str.{bytes_eq}
 use Rattle.outside.specs.Content.{Contents}
+use Rattle.outside.specs.Files.{FolderHistory}
 use Rattle.disk_table.specs.UseOrder.{value_at}
 use Rattle.cache_folder.specs.Offered.{edit_name}
 use Rattle.cache_folder.specs.Steps.{Entry, Cached, unmarked, answer_at}
@@ -20,17 +21,18 @@ use Rattle.store_world.specs.declared.events.StoreEvent.{StoreEvent}
 use Rattle.store_world.specs.declared.events.StoreEvent.TheVariants as events
 use Rattle.store_world.specs.declared.events.StoreReply.{StoreReply}
 use Rattle.store_world.specs.declared.events.StoreReply.TheVariants as replies
-use Rattle.store_world.specs.Right.{Pair, IsRight, AreRight}
+use Rattle.store_world.specs.Right.{Pair, IsRight, AreRight, OffersRight, HoldsRight}
 use Rattle.store_world.specs.World.{SeatEdit, Request, World, request_of, has_lock}
 use Rattle.store_world.specs.DiskCalls.{Begins, Writes}
 use Rattle.store_world.specs.Steps.{Outcome, IsOutcome, Fetch, fetched, is_too_large, want, ask_granted, begun_edit, BeginAfter, Begin, Write, CommitAfter, Commit, GiveUp, Transition}
 use Rattle.store_world.specs.Knowledge.{Knowledge}
 use Rattle.store_world.specs.Permits.{Permits}
 use Rattle.store_world.specs.Sound.{IsRightDisk, IsRightStore, Sound}
-use Rattle.store_world.specs.Laws.{handed_of, handed_by_event, KeepsWithin, KeepsRight, FetchesRight}
+use Rattle.store_world.specs.Laws.{handed_of, handed_by_event, KeepsWithin, PassesRight, KeepsRight, FetchesRight}
 use Rattle.store_world.proofs.Tables.{same_if}
-use Rattle.store_world.proofs.Allowed.{Handed, nothing_handed, Allows, allows_passage, allows_then, allows_same, right_stays, all_front, all_back}
+use Rattle.store_world.proofs.Allowed.{Handed, nothing_handed, Allows, allows_passage, allows_then, allows_same, right_stays, runs_none, some_folder, all_front, all_back}
 use Rattle.store_world.proofs.Quiet.{got, evicted, evicted_allows}
+use Rattle.store_world.proofs.Off.{off_law}
 use Rattle.store_world.proofs.EventLaws.{no_number, with_found, with_open, commit_allows, abort_allows}
 
 -- what is allowed of one outcome's disk is allowed of the world that it leaves
@@ -120,8 +122,14 @@ within_law event w z known who reply s permits does = event_allows event w z kno
 
 -- ---- right pairs
 
-pub right_in : (content : Contents) (w : World) (known : ℕ → Knowledge) → w.content ≡ Some content → Sound w known → IsRightDisk content w.disk
-right_in content w known is s = subst (λ c. IsRightStore c w.disk) is s.right
+pub right_in : (content : Contents) (w : World) (known : ℕ → Knowledge) → w.content ≡ Some content → Sound w known → w.off ≡ false → IsRightDisk content w.disk
+right_in content w known is s on = subst (λ c. IsRightStore c w.disk) is (s.right on)
+
+-- where nothing changes, what is held is right still
+pub right_still : (content : Contents) (d : DiskState) → HoldsRight content d.cache.history → PassesRight content d d
+right_still content d holds h known =
+    runs_none (OffersRight content) h d.cache.history known
+    (subst (λ (j : FolderHistory). OffersRight content j.held) (some_folder holds.history h (sym holds.known ∙ known)) holds.right)
 
 -- what an event hands over is right
 handed_right : (event : StoreEvent) (content : Contents) (known : Knowledge) → Permits (Some content) known event → AreRight content (handed_by_event event known)
@@ -135,9 +143,12 @@ handed_right events.GiveUp content known permits = tt
 handed_right events.Done content known permits = tt
 
 pub right_law : (event : StoreEvent) → KeepsRight event
-right_law event content w z known who reply is s permits does =
-    (right_stays content (λ f. handed_by_event event (known who)) w.disk z.disk (event_allows event w z known who reply s permits does) (right_in content w known is s)
-    (handed_right event content (known who) (subst (λ c. Permits c (known who) event) is permits))).1
+right_law event content w z known who reply is holds s permits does = by_off w.off refl where
+  by_off : (off : Bool) → w.off ≡ off → PassesRight content w.disk z.disk
+  by_off true off = subst (λ (v : World). PassesRight content w.disk v.disk) (sym (off_law event w z known who reply s off does)) (right_still content w.disk holds)
+  by_off false on =
+      (right_stays content (λ f. handed_by_event event (known who)) w.disk z.disk (event_allows event w z known who reply s permits does) (right_in content w known is s on)
+      (handed_right event content (known who) (subst (λ c. Permits c (known who) event) is permits))).1
 
 -- ---- fetches
 
@@ -160,9 +171,10 @@ fetched_bytes : (result : Result (Option (List ℕ)) DiskFault) (bytes : List �
 fetched_bytes (Ok found) bytes e = cc
 fetched_bytes (Err fault) bytes e = cc
 
-fetch_right : (off : Bool) (content : Contents) (w z : World) (key bytes : List ℕ) → IsRightDisk content w.disk → Fetch off w key (replies.Bytes (Some bytes)) z → IsRight content (key, bytes)
+fetch_right : (off : Bool) (content : Contents) (w z : World) (key bytes : List ℕ) → (off ≡ false → IsRightDisk content w.disk) → Fetch off w key (replies.Bytes (Some bytes)) z → IsRight content (key, bytes)
 fetch_right true content w z key bytes right does = let bad : replies.Bytes (Some bytes) ≡ replies.Bytes None = does.0 in cc
-fetch_right false content w z key bytes right does =
+fetch_right false content w z key bytes on does =
+    let right = on refl in
     let is = fetched_bytes does.0 bytes does.3.0 in
     let answer : Some bytes ≡ answer_at key (listed right.holds.history.held (entries w.disk.cache)) = subst (λ r. IfOk r (λ found. found ≡ answer_at key (listed right.holds.history.held (entries w.disk.cache)))) is (does.2.list right.holds.history right.holds.known) in
     answer_has (IsRight content) key bytes (listed right.holds.history.held (entries w.disk.cache)) right.keeps (sym answer)

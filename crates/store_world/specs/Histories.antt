@@ -1,6 +1,6 @@
 -- What holds through each history of the store, and over any list of runs on one folder. It is this project's
 -- own.
-use Rattle.std.specs.Prelude.{◌≡◌, ℕ, zero, suc, List, ◌∷◌, ◌++◌, take, Some, []}
+use Rattle.std.specs.Prelude.{◌≡◌, ℕ, zero, suc, true, List, ◌∷◌, ◌++◌, take, Some, []}
 use Rattle.std.specs.declared.option.Option.{Option}
 use Rattle.outside.specs.Content.{Contents}
 use Rattle.outside.specs.Files.{Folder, FolderHistory, last_of, passed_through}
@@ -17,7 +17,7 @@ use Rattle.store_world.specs.World.{World}
 use Rattle.store_world.specs.Knowledge.{knowledge_in}
 use Rattle.store_world.specs.Sound.{Sound}
 use Rattle.store_world.specs.Laws.{handed_by_event}
-use Rattle.store_world.specs.StoreMachine.{IsOpening, store_machine}
+use Rattle.store_world.specs.StoreMachine.{IsOpening, BeganRight, store_machine}
 use Rattle.store_world.specs.Staying.{MayTake}
 
 -- ---- what a history commits
@@ -43,8 +43,14 @@ module _ {M : Type 0} (opening now : M → World) (history : M → List (Entry N
   -- sound.
   abbrev pub AlwaysSound : Type 0
   AlwaysSound = (content : Option Contents) (before : Option FolderHistory) (w z : World)
-      (past : List (Entry Note)) → IsOpening content before w → HoldsRightIn content before
+      (past : List (Entry Note)) → IsOpening content before w → BeganRight content before w
       → IsLegal (store_machine opening now history) w past z → Sound z (knowledge_in past)
+
+  -- A store that is off stays as it opened.
+  abbrev pub AlwaysOff : Type 0
+  AlwaysOff = (content : Option Contents) (before : Option FolderHistory) (w z : World)
+      (past : List (Entry Note)) → IsOpening content before w → w.off ≡ true
+      → IsLegal (store_machine opening now history) w past z → z ≡ w
 
   -- Where the content is told, each moment since the start was called offers only what is right.
   abbrev pub AlwaysRight : Type 0
@@ -57,7 +63,7 @@ module _ {M : Type 0} (opening now : M → World) (history : M → List (Entry N
   -- committed.
   abbrev pub AlwaysGiven : Type 0
   AlwaysGiven = (content : Option Contents) (before : Option FolderHistory) (w z : World)
-      (past : List (Entry Note)) → IsOpening content before w → HoldsRightIn content before
+      (past : List (Entry Note)) → IsOpening content before w → BeganRight content before w
       → IsLegal (store_machine opening now history) w past z
       → IfKnown before (λ h. OffersOnly (offered h.held ++ committed_in past) h z.disk)
 
@@ -72,7 +78,7 @@ module _ {M : Type 0} (opening now : M → World) (history : M → List (Entry N
   abbrev pub AlwaysOffered : Type 0
   AlwaysOffered = (content : Option Contents) (before : Option FolderHistory) (w between z : World)
       (past later : List (Entry Note)) (pair : Pair) → IsOpening content before w
-      → HoldsRightIn content before → IsLegal (store_machine opening now history) w past between
+      → BeganRight content before w → IsLegal (store_machine opening now history) w past between
       → IsLegal (store_machine opening now history) w (past ++ later) z
       → Leads (store_machine opening now history) between later z → NoneTakes pair.0 between later
       → EntryStays pair between.disk.cache z.disk.cache
@@ -110,6 +116,10 @@ module _ {M : Type 0} (opening now : M → World) (history : M → List (Entry N
 abbrev pub HistoriesAreSound : Type 0 → Type 0
 HistoriesAreSound M =
     (opening now : M → World) (history : M → List (Entry Note)) → AlwaysSound opening now history
+
+abbrev pub HistoriesKeepOff : Type 0 → Type 0
+HistoriesKeepOff M =
+    (opening now : M → World) (history : M → List (Entry Note)) → AlwaysOff opening now history
 
 abbrev pub HistoriesAreRight : Type 0 → Type 0
 HistoriesAreRight M =

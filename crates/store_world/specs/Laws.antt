@@ -17,7 +17,7 @@ use Rattle.store_world.specs.declared.events.StoreEvent.{StoreEvent}
 use Rattle.store_world.specs.declared.events.StoreEvent.TheVariants as events
 use Rattle.store_world.specs.declared.events.StoreReply.{StoreReply}
 use Rattle.store_world.specs.declared.events.StoreReply.TheVariants as replies
-use Rattle.store_world.specs.Right.{Pair, IsRight, OffersRight}
+use Rattle.store_world.specs.Right.{Pair, IsRight, OffersRight, HoldsRight}
 use Rattle.store_world.specs.World.{SeatEdit, Request, World, request_of}
 use Rattle.store_world.specs.DiskCalls.{next_eviction, Evicts, EvictsTo, EvictsAll}
 use Rattle.store_world.specs.Steps.{Transition}
@@ -43,6 +43,11 @@ pub record SameSettings (w z : World) : Type 0 where
 abbrev pub KeepsSettings : StoreEvent → Type 0
 KeepsSettings event =
     (w z : World) (who : ℕ) (reply : StoreReply) → Transition w who event reply z → SameSettings w z
+
+-- An event of a store that is off changes nothing.
+abbrev pub KeepsOff : StoreEvent → Type 0
+KeepsOff event = (w z : World) (known : ℕ → Knowledge) (who : ℕ) (reply : StoreReply)
+    → Sound w known → w.off ≡ true → Transition w who event reply z → z ≡ w
 
 -- ---- what the calls of the disk cache ask
 
@@ -119,11 +124,13 @@ abbrev pub PassesRight : Contents → DiskState → DiskState → Type 0
 PassesRight content old new =
     IfKnown old.cache.history (λ h. Runs (OffersRight content) h new.cache.history)
 
--- Where the content is told, each moment of an event offers only what is right.
+-- Where the content is told and the files hold what is right, each moment of an event offers only what is
+-- right. While the store is not off, its files do.
 abbrev pub KeepsRight : StoreEvent → Type 0
 KeepsRight event = (content : Contents) (w z : World) (known : ℕ → Knowledge) (who : ℕ) (reply : StoreReply)
-    → w.content ≡ Some content → Sound w known → Permits w.content (known who) event
-    → Transition w who event reply z → PassesRight content w.disk z.disk
+    → w.content ≡ Some content → HoldsRight content w.disk.cache.history → Sound w known
+    → Permits w.content (known who) event → Transition w who event reply z
+    → PassesRight content w.disk z.disk
 
 -- And what is fetched is a right pair with its key.
 abbrev pub FetchesRight : Type 0

@@ -118,7 +118,8 @@ pub record Sound (w : World) (known : ℕ → Knowledge) : Type 0 where
   pub once : IsOnce (entries w.disk.cache)
   pub files : IfKnown w.disk.cache.history (λ h. (who : ℕ) (request : Request)
       → request_of who w.requests ≡ Some request → HasFile h.held request)
-  pub right : IsRightStore w.content w.disk
+  -- what a store that is off has for files is not asked
+  pub right : w.off ≡ false → IsRightStore w.content w.disk
   -- no seat of a store that is off wants a lock
   pub off : w.off ≡ true → w.requests ≡ []
   -- what a seat knows of its request is so

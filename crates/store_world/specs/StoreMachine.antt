@@ -20,6 +20,7 @@ use Rattle.disk_lru.specs.Started.{OffersNoMore}
 use Rattle.store_world.specs.declared.events.StoreEvent.{StoreEvent}
 use Rattle.store_world.specs.declared.events.StoreReply.{StoreReply}
 use Rattle.store_world.specs.declared.events.Note.{Note}
+use Rattle.store_world.specs.Right.{HoldsRightIn}
 use Rattle.store_world.specs.World.{World}
 use Rattle.store_world.specs.Knowledge.{learned}
 use Rattle.store_world.specs.Permits.{Permits}
@@ -55,6 +56,10 @@ pub record IsOpening (content : Option Contents) (before : Option FolderHistory)
   pub moments : OffersNoMore before w.disk.cache.history
   pub keeps : IfKnown before (λ h. IfKnown w.disk.cache.history (λ k.
       Pass (is_among (offered h.held)) (values_of (listed k.held (entries w.disk.cache)))))
+
+-- where it opens with a disk cache, the files held what is right before
+abbrev pub BeganRight : Option Contents → Option FolderHistory → World → Type 0
+BeganRight content before w = w.off ≡ false → HoldsRightIn content before
 
 -- ---- the machine
 

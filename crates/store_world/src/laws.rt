@@ -7,14 +7,14 @@ ghost use Rattle.cache_key.specs.declared.bytes.Which.{Which};
 ghost use Rattle.cache_key.specs.Key.{Key, IsKey};
 ghost use Rattle.store_world.specs.declared.events.StoreEvent.{StoreEvent};
 ghost use Rattle.store_world.specs.Envelopes.{envelope, payload_of};
-ghost use Rattle.store_world.specs.Right.{IsPayload, entry_of, IsRight, OffersRight, HoldsRightIn, IsDecided, HasTruth};
+ghost use Rattle.store_world.specs.Right.{IsPayload, entry_of, IsRight, OffersRight, IsDecided, HasTruth};
 ghost use Rattle.store_world.specs.World.{World};
 ghost use Rattle.store_world.specs.Knowledge.{no_knowledge};
 ghost use Rattle.store_world.specs.Sound.{Sound};
-ghost use Rattle.store_world.specs.StoreMachine.{IsOpening};
-ghost use Rattle.store_world.specs.Laws.{KeepsSound, KeepsSettings, KeepsNumbers, HoldersBegin, HoldersWrite, RequestsAreFew, OneMoreFits, OneHolder, KeepsWithin, KeepsRight, FetchesRight, CommitStores, RoomKeeps, EvictsOneMore};
+ghost use Rattle.store_world.specs.StoreMachine.{IsOpening, BeganRight};
+ghost use Rattle.store_world.specs.Laws.{KeepsSound, KeepsSettings, KeepsOff, KeepsNumbers, HoldersBegin, HoldersWrite, RequestsAreFew, OneMoreFits, OneHolder, KeepsWithin, KeepsRight, FetchesRight, CommitStores, RoomKeeps, EvictsOneMore};
 ghost use Rattle.store_world.specs.Staying.{KeepsEntries};
-ghost use Rattle.store_world.specs.Histories.{HistoriesAreSound, HistoriesAreRight, HistoriesOfferGiven, HistoriesKeepEntries, FoldersStayRight};
+ghost use Rattle.store_world.specs.Histories.{HistoriesAreSound, HistoriesKeepOff, HistoriesAreRight, HistoriesOfferGiven, HistoriesKeepEntries, FoldersStayRight};
 
 use cache_folder::calls_keep_others;
 use cache_key::key_bytes_tell_apart;
@@ -57,6 +57,11 @@ pub fn each_event_keeps_settings()
     ensures { (event : StoreEvent) → KeepsSettings event }
 {}
 
+/// An event of a store that is off changes nothing.
+pub fn each_event_keeps_what_is_off()
+    ensures { (event : StoreEvent) → KeepsOff event }
+{}
+
 /// The edits of other seats that are open keep their numbers.
 pub fn each_event_keeps_numbers()
     ensures { (event : StoreEvent) → KeepsNumbers event }
@@ -85,7 +90,7 @@ pub fn each_moment_offers_what_was_given()
     ensures { (event : StoreEvent) → KeepsWithin event }
 {}
 
-/// Where the content is told, each moment of an event offers only what is right.
+/// Where the content is told and the files hold what is right, each moment of an event offers only what is right.
 pub fn each_moment_offers_what_is_right()
     ensures { (event : StoreEvent) → KeepsRight event }
 {}
@@ -124,12 +129,17 @@ pub fn evictions_go_on()
 /// What a store opens with is sound.
 pub fn openings_are_sound()
     ensures { (content : Option Contents) (before : Option FolderHistory) (w : World)
-        → IsOpening content before w → HoldsRightIn content before → Sound w (λ who. no_knowledge) }
+        → IsOpening content before w → BeganRight content before w → Sound w (λ who. no_knowledge) }
 {}
 
 /// Each world that a legal history leads to is sound.
 pub fn each_history_is_sound<M>()
     ensures { HistoriesAreSound M }
+{}
+
+/// A store that is off stays as it opened, whatever its seats do.
+pub fn each_history_keeps_what_is_off<M>()
+    ensures { HistoriesKeepOff M }
 {}
 
 /// Where the content is told, each moment since the start offers only what is right.

@@ -1,4 +1,4 @@
-use Rattle.std.proofs.Common.{◌+◌, ◌-◌, List, ◌++◌, length, take, refl, ap, ◌∙◌}
+use Rattle.std.proofs.Common.{◌+◌, ◌-◌, ◌++◌, length, take, refl, ap, ◌∙◌}
 use Rattle.std.specs.Str.{bytes_eq}
 use Rattle.disk_store.proofs.Fronts.{front, has_front}
 use Rattle.disk_store.proofs.envelopes.is_envelope.Goals as goal

@@ -1,4 +1,4 @@
-use Rattle.std.proofs.Common.{ℕ, List, sym, subst, ◌∙◌}
+use Rattle.std.proofs.Common.{ℕ, List, sym, subst}
 use Rattle.state_machine.specs.declared.entry.Entry.{Entry}
 use Rattle.store_world.specs.declared.events.Note.{Note}
 use Rattle.store_world.specs.World.{World}

@@ -1,13 +1,10 @@
-use Rattle.std.proofs.Common.{◌≡◌, ℕ, ◌<◌, ◌≤◌, List, [], ◌∷◌, ◌++◌, length, get_or, set, Some, None, Ok, Err, Option, refl, ap, sym, subst, ◌∙◌, arith, true, false}
+use Rattle.std.proofs.Common.{List, sym, subst, ◌∙◌, false}
 use Rattle.state_machine.specs.declared.entry.Entry.{Entry}
-use Rattle.disk_lru.specs.State.{EditValue}
 use Rattle.store_world.specs.declared.events.StoreEvent.TheVariants as events
-use Rattle.store_world.specs.declared.events.StoreReply.TheVariants as replies
 use Rattle.store_world.specs.declared.events.Note.{Note}
-use Rattle.store_world.specs.World.{SeatEdit, Request, Requests, World, request_of, with_request, without_seat, has_lock}
+use Rattle.store_world.specs.World.{World}
 use Rattle.store_world.specs.Knowledge.{knowledge_in}
-use Rattle.disk_store.specs.StoreView.{MayStep, IsToken, TokensAgree}
-use Rattle.disk_store.specs.OpenView.{IsOpenStore}
+use Rattle.disk_store.specs.StoreView.{MayStep}
 use Rattle.disk_store.proofs.Tokens.{gets_keep, same_edits}
 use Rattle.disk_store.proofs.open.OpenStore.fetch.Goals as goal
 

@@ -1,14 +1,11 @@
-use Rattle.std.proofs.Common.{◌≡◌, ℕ, ◌<◌, ◌≤◌, List, [], ◌∷◌, ◌++◌, length, get_or, set, Some, None, Ok, Err, Option, refl, ap, sym, subst, ◌∙◌, arith, true, false}
+use Rattle.std.proofs.Common.{◌≡◌, ℕ, List, get_or, set, Some, None, Option, refl, ap, sym, subst, ◌∙◌, false}
 use Rattle.state_machine.specs.declared.entry.Entry.{Entry}
 use Rattle.disk_lru.specs.State.{EditValue}
 use Rattle.store_world.specs.declared.events.StoreEvent.TheVariants as events
-use Rattle.store_world.specs.declared.events.StoreReply.TheVariants as replies
 use Rattle.store_world.specs.declared.events.Note.{Note}
-use Rattle.store_world.specs.World.{SeatEdit, Request, Requests, World, request_of, with_request, without_seat, has_lock}
-use Rattle.store_world.specs.Knowledge.{knowledge_in}
-use Rattle.disk_store.specs.StoreView.{MayStep, IsToken, TokensAgree}
+use Rattle.store_world.specs.World.{SeatEdit, Request, Requests, World, request_of}
+use Rattle.disk_store.specs.StoreView.{MayStep}
 use Rattle.disk_store.specs.OpenView.{IsOpenStore}
-use Rattle.std.specs.Prelude.{IsOk}
 use Rattle.std.proofs.lemmas.List.{get_or-set_other, length-set}
 use Rattle.disk_lru.specs.Past.{DiskState}
 use Rattle.store_world.specs.DiskCalls.{Aborts}

@@ -1,19 +1,16 @@
-use Rattle.std.proofs.Common.{◌≡◌, ℕ, ◌<◌, ◌≤◌, List, [], ◌∷◌, ◌++◌, length, get_or, set, Some, None, Ok, Err, Option, refl, ap, sym, subst, ◌∙◌, arith, true, false}
+use Rattle.std.proofs.Common.{◌≡◌, ℕ, ◌<◌, List, length, get_or, set, Some, None, Option, refl, ap, sym, subst, ◌∙◌, arith, false}
 use Rattle.state_machine.specs.declared.entry.Entry.{Entry}
 use Rattle.disk_lru.specs.State.{EditValue}
 use Rattle.store_world.specs.declared.events.StoreEvent.TheVariants as events
-use Rattle.store_world.specs.declared.events.StoreReply.TheVariants as replies
 use Rattle.store_world.specs.declared.events.Note.{Note}
-use Rattle.store_world.specs.World.{SeatEdit, Request, Requests, World, request_of, with_request, without_seat, has_lock}
+use Rattle.store_world.specs.World.{SeatEdit, Request, Requests, World, request_of, with_request}
 use Rattle.store_world.specs.Knowledge.{knowledge_in}
-use Rattle.disk_store.specs.StoreView.{MayStep, IsToken, TokensAgree}
+use Rattle.disk_store.specs.StoreView.{MayStep, IsToken}
 use Rattle.disk_store.specs.OpenView.{IsOpenStore}
-use Rattle.std.specs.Prelude.{is_err}
 use Rattle.std.proofs.lemmas.List.{get_or-set_same, get_or-set_other, length-set}
 use Rattle.cache_folder.specs.Tables.{edit_at}
 use Rattle.disk_lru.specs.State.{entries}
 use Rattle.disk_lru.specs.Past.{DiskState}
-use Rattle.store_world.specs.DiskCalls.{Writes}
 use Rattle.store_world.specs.Steps as steps
 use Rattle.store_world.specs.Steps.{with_edit, edit_after, done, Transition}
 use Rattle.disk_store.specs.Requests.{change, written_to}

@@ -1,4 +1,4 @@
-use Rattle.std.proofs.Common.{ℕ, List, [], ◌∷◌, ◌++◌, ap, sym, subst, ◌∙◌}
+use Rattle.std.proofs.Common.{List, [], ◌∷◌, ◌++◌, ap, sym, subst, ◌∙◌}
 use Rattle.state_machine.specs.declared.entry.Entry.{Entry}
 use Rattle.state_machine.specs.Histories.{entry}
 use Rattle.store_world.specs.declared.events.Note.{Note}
@@ -31,4 +31,4 @@ invariant_of-self g c =
       permitted = subst (λ o. Permits o (knowledge_in c.self.inside.history.value c.args.who) c.args.event) (sym c.self.invariant.settings.content) (subst (λ (v : StoreValue). Permits v.opening.content (knowledge_in v.history c.args.who) c.args.event) (sym c.self.view_is) c.requires.asks);
     } in
     subst (λ (past' : List (Entry Note)). IsStore before opening c.answer-reply.new.self past') (sym (c.add_entry.ensures ∙ ap (λ event. past ++ entry c.args.who (noted event c.answer-reply.result) ∷ []) c.of-shown.ensures))
-    (stays_store before opening w c.answer-reply.new.self past e c.own_entries_append.ensures c.each_event_keeps_sound.ensures c.each_event_keeps_settings.ensures c.each_moment_offers_what_is_right.ensures c.self.invariant may c.answer-reply.ensures)
+    (stays_store before opening w c.answer-reply.new.self past e c.own_entries_append.ensures c.each_event_keeps_sound.ensures c.each_event_keeps_settings.ensures c.each_event_keeps_what_is_off.ensures c.each_moment_offers_what_is_right.ensures c.self.invariant may c.answer-reply.ensures)
