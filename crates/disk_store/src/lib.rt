@@ -7,9 +7,11 @@ mod envelopes;
 mod history;
 mod open;
 mod requests;
+mod run_truth;
 mod state;
 mod stores;
 
 pub use envelopes::{envelope, payload_of};
+pub use run_truth::truth;
 pub use store_world::{Chunk, Note, StoreEvent, StoreReply};
 pub use stores::{Store, StoreStart};

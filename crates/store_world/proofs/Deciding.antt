@@ -1,12 +1,13 @@
--- Whether a pair is right can be decided: of the keys that it may be an entry of there are finitely many.
-use Rattle.std.proofs.Common.{◌≡◌, inl, inr, ℕ, zero, suc, ◌+◌, ◌<◌, ◌≤◌, ◌^◌, true, false, List, [], ◌∷◌, ◌++◌, length, take, drop, Some, None, Ok, Err, Result, refl, sym, ap, subst, ◌∙◌, arith}
-use Rattle.std.specs.Prelude.{nat_le, nat_lt}
+-- Whether a pair is right can be decided: of the keys that it may be an entry of there are finitely many. And so the truth of a run can be found.
+use Rattle.std.proofs.Common.{◌≡◌, inl, inr, ℕ, zero, suc, ◌+◌, ◌<◌, ◌≤◌, Bool, true, false, List, [], ◌∷◌, ◌++◌, length, take, drop, Some, None, Ok, Err, Result, refl, sym, ap, subst, ◌∙◌, arith, length-append, length-drop}
+use Rattle.std.specs.Prelude.{nat_le, nat_lt, not, ◌&&◌, ◌||◌, if◌then◌else◌}
 use Rattle.std.specs.Int.{w32, to_le_bytes}
 use Rattle.std.specs.declared.option.Option.{Option}
 use Rattle.std.specs.FinMap.{get}
+use Rattle.std.specs.List.{list_all}
 use Rattle.std.specs.Str.{bytes_eq}
-use Rattle.std.proofs.lemmas.Bool.{ltb-true, ltb-false, leb-true, leb-false}
-use Rattle.std.proofs.lemmas.List.{length-append, append_assoc, append-nil, drop_at, take_at}
+use Rattle.std.proofs.lemmas.Bool.{ltb-true, ltb-false, leb-true, le-leb, and_parts, and_from}
+use Rattle.std.proofs.lemmas.List.{append_assoc, append-nil, drop_at, take_at}
 use Rattle.outside.specs.Content.{Contents}
 use Rattle.outside.specs.Files.{Folder, FolderHistory}
 use Rattle.bitmap_kind.specs.Picture.{Picture}
@@ -24,126 +25,125 @@ use Rattle.image_format.specs.declared.refusal.Refusal.{Refusal}
 use Rattle.image_format.specs.Content.{picture_in}
 use Rattle.image_format.specs.RawForm.{raw_text}
 use Rattle.cache_folder.specs.Offered.{offered}
+use Rattle.disk_lru.specs.Past.{is_pair}
 use Rattle.store_world.specs.Envelopes.{envelope}
-use Rattle.store_world.specs.Right.{Pair, IsPayload, entry_of, IsRight, AreRight, OffersRight, IsDecided, HasTruth}
-use Rattle.store_world.proofs.Tables.{same_if, ne_if}
+use Rattle.store_world.specs.Right.{Pair, IsPayload, entry_of, IsRight, AreRight, OffersRight, HoldsRightIn, IsTruth, IsTruthOf, IsDecided}
+use Rattle.store_world.specs.Truth.{is_key, is_text, is_raw, is_payload, Guess, key_in, payload_in, is_right_for, each_below, each_which, each_transform, each_config, each_rule, each_guess, is_right, offers_right, truth_of}
+use Rattle.store_world.proofs.Tables.{same_if, true_if}
 use Rattle.store_world.proofs.Allowed.{some_folder}
-use Rattle.store_world.proofs.Entries.{unfolded, drop_front, bytes_small}
+use Rattle.store_world.proofs.Entries.{unfolded, drop_front}
 
--- ---- what can be decided
+-- ---- tests
 
-if_then : (P Q : Type 0) → IsDecided P → (P → IsDecided Q) → IsDecided (P → Q)
-if_then P Q (inr out) q = inl (λ p. absurd (out p))
-if_then P Q (inl p) q = then_q (q p) where
-  then_q : IsDecided Q → IsDecided (P → Q)
-  then_q (inl yes_q) = inl (λ p. yes_q)
-  then_q (inr out) = inr (λ f. out (f p))
+-- a test is true just where this holds
+abbrev Answers : Bool → Type 0 → Type 0
+Answers test P = (test ≡ true → P) × (P → test ≡ true)
 
-both : (P Q : Type 0) → IsDecided P → IsDecided Q → IsDecided (P × Q)
-both P Q (inl p) (inl q) = inl (p, q)
-both P Q (inl p) (inr out) = inr (λ x. out x.1)
-both P Q (inr out) q = inr (λ x. out x.0)
+both : (p q : Bool) (P Q : Type 0) → Answers p P → Answers q Q → Answers (p && q) (P × Q)
+both p q P Q x y = (λ e. let parts = and_parts p q e in (x.0 parts.0, y.0 parts.1), λ h. and_from p q (x.1 h.0) (y.1 h.1))
 
-below : (i n : ℕ) → nat_lt i n ≡ true → i < n
-below i n t = ltb-true i n t
+if_then : (p q : Bool) (P Q : Type 0) → Answers p P → Answers q Q → Answers (not p || q) (P → Q)
+if_then true q P Q x y = (λ e h. y.0 e, λ f. y.1 (f (x.0 refl)))
+if_then false q P Q x y = (λ e h. let bad : false ≡ true = x.1 h in cc, λ f. refl)
 
-equal : (i n : ℕ) → nat_lt i n ≡ false → i < suc n → n ≡ i
-equal i n t lt = omega (arith, ltb-false i n t, lt)
+below : (P : ℕ → Type 0) (test : ℕ → Bool) (n : ℕ) → ((i : ℕ) → Answers (test i) (P i)) → Answers (each_below n test) ((i : ℕ) → i < n → P i)
+unfolding each_below
+below P test zero each = (λ e i lt. absurd (omega (arith, lt)), λ all. refl)
+below P test (suc n) each =
+    let rest = below P test n each in (
+      λ e i lt. let parts = and_parts (test n) (each_below n test) e in one (rest.0 parts.1) ((each n).0 parts.0) i lt,
+      λ all. and_from (test n) (each_below n test) ((each n).1 (all n (omega arith))) (rest.1 (λ k lt. all k (omega (arith, lt)))),
+    ) where
+      small : (i : ℕ) → nat_lt i n ≡ true → i < n
+      small i t = ltb-true i n t
 
-all_below : (P : ℕ → Type 0) (n : ℕ) → ((i : ℕ) → IsDecided (P i)) → IsDecided ((i : ℕ) → i < n → P i)
-all_below P zero each = inl (λ i lt. absurd (omega (arith, lt)))
-all_below P (suc n) each = step (all_below P n each) (each n) where
-  last : (i : ℕ) → i < suc n → ((k : ℕ) → k < n → P k) → P n → P i
-  last i lt before here = elim (nat_lt i n) as (λ b. nat_lt i n ≡ b → P i) [
-    | true ↦ λ t. before i (below i n t)
-    | false ↦ λ t. subst P (equal i n t lt) here
-  ] refl
+      last : (i : ℕ) → nat_lt i n ≡ false → i < suc n → n ≡ i
+      last i t lt = omega (arith, ltb-false i n t, lt)
 
-  step : IsDecided ((k : ℕ) → k < n → P k) → IsDecided (P n) → IsDecided ((i : ℕ) → i < suc n → P i)
-  step (inl before) (inl here) = inl (λ i lt. last i lt before here)
-  step (inl before) (inr out) = inr (λ all. out (all n (omega arith)))
-  step (inr out) here = inr (λ all. out (λ k lt. all k (omega (arith, lt))))
+      one : ((k : ℕ) → k < n → P k) → P n → (i : ℕ) → i < suc n → P i
+      one before here i lt = elim (nat_lt i n) as (λ b. nat_lt i n ≡ b → P i) [
+        | true ↦ λ t. before i (small i t)
+        | false ↦ λ t. subst P (last i t lt) here
+      ] refl
 
-same_bytes : (a b : List ℕ) → IsDecided (a ≡ b)
-same_bytes a b = elim (bytes_eq b a) as (λ t. bytes_eq b a ≡ t → IsDecided (a ≡ b)) [ true ↦ λ t. inl (same_if a b t) | false ↦ λ t. inr (ne_if a b t) ] refl
+all_kinds : (P : Which → Type 0) (test : Which → Bool) → ((w : Which) → Answers (test w) (P w)) → Answers (each_which test) ((w : Which) → P w)
+unfolding each_which
+all_kinds P test each = (
+  λ e. let p = and_parts (test SourceBytes) (test Outcome) e in two ((each SourceBytes).0 p.0) ((each Outcome).0 p.1),
+  λ all. and_from (test SourceBytes) (test Outcome) ((each SourceBytes).1 (all SourceBytes)) ((each Outcome).1 (all Outcome)),
+) where
+  two : P SourceBytes → P Outcome → (w : Which) → P w
+  two a b SourceBytes = a
+  two a b Outcome = b
 
-same_pair : (p q : Pair) → IsDecided (p ≡ q)
-same_pair p q = by_parts (same_bytes p.0 q.0) (same_bytes p.1 q.1) where
-  by_parts : IsDecided (p.0 ≡ q.0) → IsDecided (p.1 ≡ q.1) → IsDecided (p ≡ q)
-  by_parts (inl a) (inl b) = inl (λ i. (a i, b i))
-  by_parts (inl a) (inr out) = inr (λ e. out (ap (λ (x : Pair). x.1) e))
-  by_parts (inr out) b = inr (λ e. out (ap (λ (x : Pair). x.0) e))
+all_rules : (P : Rule → Type 0) (test : Rule → Bool) → ((r : Rule) → Answers (test r) (P r)) → Answers (each_rule test) ((r : Rule) → P r)
+unfolding each_rule
+all_rules P test each = (
+  λ e. let p = and_parts (test AtLeast) (test AtMost) e in two ((each AtLeast).0 p.0) ((each AtMost).0 p.1),
+  λ all. and_from (test AtLeast) (test AtMost) ((each AtLeast).1 (all AtLeast)) ((each AtMost).1 (all AtMost)),
+) where
+  two : P AtLeast → P AtMost → (r : Rule) → P r
+  two a b AtLeast = a
+  two a b AtMost = b
 
-at_most : (m n : ℕ) → IsDecided (m ≤ n)
-at_most m n = elim (nat_le m n) as (λ b. nat_le m n ≡ b → IsDecided (m ≤ n)) [ true ↦ λ t. inl (leb-true m n t) | false ↦ λ t. inr (λ le. omega (arith, le, leb-false m n t)) ] refl
+all_configs : (P : Config → Type 0) (test : Config → Bool) → ((c : Config) → Answers (test c) (P c)) → Answers (each_config test) ((c : Config) → P c)
+unfolding each_config
+all_configs P test each = (
+  λ e.
+      let p = and_parts (test Argb8888) (test Rgb565 && test Alpha8) e in
+      let q = and_parts (test Rgb565) (test Alpha8) p.1 in
+      three ((each Argb8888).0 p.0) ((each Rgb565).0 q.0) ((each Alpha8).0 q.1),
+  λ all. and_from (test Argb8888) (test Rgb565 && test Alpha8) ((each Argb8888).1 (all Argb8888))
+      (and_from (test Rgb565) (test Alpha8) ((each Rgb565).1 (all Rgb565)) ((each Alpha8).1 (all Alpha8))),
+) where
+  three : P Argb8888 → P Rgb565 → P Alpha8 → (c : Config) → P c
+  three a b c Argb8888 = a
+  three a b c Rgb565 = b
+  three a b c Alpha8 = c
 
-is_this : (o : Option (List ℕ)) (payload : List ℕ) → IsDecided (o ≡ Some payload)
-is_this None payload = inr (λ e. cc)
-is_this (Some text) payload = by_text (same_bytes text payload) where
-  by_text : IsDecided (text ≡ payload) → IsDecided (Some text ≡ Some payload)
-  by_text (inl e) = inl (ap Some e)
-  by_text (inr out) = inr (λ e. out (let same : text ≡ payload = cc in same))
-
-each_transform : (P : Transform → Type 0) → ((t : Transform) → IsDecided (P t)) → IsDecided ((t : Transform) → P t)
-each_transform P each = by_four (each transforms.Nothing) (each transforms.Fit) (each transforms.Crop) (each transforms.Inside) where
+all_transforms : (P : Transform → Type 0) (test : Transform → Bool) → ((t : Transform) → Answers (test t) (P t)) → Answers (each_transform test) ((t : Transform) → P t)
+unfolding each_transform
+all_transforms P test each = (
+  λ e.
+      let p = and_parts (test transforms.Nothing) (test transforms.Fit && (test transforms.Crop && test transforms.Inside)) e in
+      let q = and_parts (test transforms.Fit) (test transforms.Crop && test transforms.Inside) p.1 in
+      let r = and_parts (test transforms.Crop) (test transforms.Inside) q.1 in
+      four ((each transforms.Nothing).0 p.0) ((each transforms.Fit).0 q.0) ((each transforms.Crop).0 r.0) ((each transforms.Inside).0 r.1),
+  λ all. and_from (test transforms.Nothing) (test transforms.Fit && (test transforms.Crop && test transforms.Inside)) ((each transforms.Nothing).1 (all transforms.Nothing))
+      (and_from (test transforms.Fit) (test transforms.Crop && test transforms.Inside) ((each transforms.Fit).1 (all transforms.Fit))
+      (and_from (test transforms.Crop) (test transforms.Inside) ((each transforms.Crop).1 (all transforms.Crop)) ((each transforms.Inside).1 (all transforms.Inside)))),
+) where
   four : P transforms.Nothing → P transforms.Fit → P transforms.Crop → P transforms.Inside → (t : Transform) → P t
   four a b c d transforms.Nothing = a
   four a b c d transforms.Fit = b
   four a b c d transforms.Crop = c
   four a b c d transforms.Inside = d
 
-  by_four : IsDecided (P transforms.Nothing) → IsDecided (P transforms.Fit) → IsDecided (P transforms.Crop) → IsDecided (P transforms.Inside) → IsDecided ((t : Transform) → P t)
-  by_four (inl a) (inl b) (inl c) (inl d) = inl (four a b c d)
-  by_four (inr out) b c d = inr (λ all. out (all transforms.Nothing))
-  by_four (inl a) (inr out) c d = inr (λ all. out (all transforms.Fit))
-  by_four (inl a) (inl b) (inr out) d = inr (λ all. out (all transforms.Crop))
-  by_four (inl a) (inl b) (inl c) (inr out) = inr (λ all. out (all transforms.Inside))
-
-each_config : (P : Config → Type 0) → ((c : Config) → IsDecided (P c)) → IsDecided ((c : Config) → P c)
-each_config P each = by_three (each Argb8888) (each Rgb565) (each Alpha8) where
-  three : P Argb8888 → P Rgb565 → P Alpha8 → (c : Config) → P c
-  three a b c Argb8888 = a
-  three a b c Rgb565 = b
-  three a b c Alpha8 = c
-
-  by_three : IsDecided (P Argb8888) → IsDecided (P Rgb565) → IsDecided (P Alpha8) → IsDecided ((c : Config) → P c)
-  by_three (inl a) (inl b) (inl c) = inl (three a b c)
-  by_three (inr out) b c = inr (λ all. out (all Argb8888))
-  by_three (inl a) (inr out) c = inr (λ all. out (all Rgb565))
-  by_three (inl a) (inl b) (inr out) = inr (λ all. out (all Alpha8))
-
-each_rule : (P : Rule → Type 0) → ((r : Rule) → IsDecided (P r)) → IsDecided ((r : Rule) → P r)
-each_rule P each = by_two (each AtLeast) (each AtMost) where
-  two : P AtLeast → P AtMost → (r : Rule) → P r
-  two a b AtLeast = a
-  two a b AtMost = b
-
-  by_two : IsDecided (P AtLeast) → IsDecided (P AtMost) → IsDecided ((r : Rule) → P r)
-  by_two (inl a) (inl b) = inl (two a b)
-  by_two (inr out) b = inr (λ all. out (all AtLeast))
-  by_two (inl a) (inr out) = inr (λ all. out (all AtMost))
-
-each_which : (P : Which → Type 0) → ((w : Which) → IsDecided (P w)) → IsDecided ((w : Which) → P w)
-each_which P each = by_two (each SourceBytes) (each Outcome) where
-  two : P SourceBytes → P Outcome → (w : Which) → P w
-  two a b SourceBytes = a
-  two a b Outcome = b
-
-  by_two : IsDecided (P SourceBytes) → IsDecided (P Outcome) → IsDecided ((w : Which) → P w)
-  by_two (inl a) (inl b) = inl (two a b)
-  by_two (inr out) b = inr (λ all. out (all SourceBytes))
-  by_two (inl a) (inr out) = inr (λ all. out (all Outcome))
-
 -- ---- keys and payloads
 
-is_key : (key : Key) → IsDecided (IsKey key)
-is_key key = by_parts (at_most (length key.url) 1024) (at_most (length key.sig) 64) (both (1 ≤ key.width) (key.width ≤ 16384) (at_most 1 key.width) (at_most key.width 16384)) (both (1 ≤ key.height) (key.height ≤ 16384) (at_most 1 key.height) (at_most key.height 16384)) where
-  by_parts : IsDecided (length key.url ≤ 1024) → IsDecided (length key.sig ≤ 64) → IsDecided ((1 ≤ key.width) × (key.width ≤ 16384)) → IsDecided ((1 ≤ key.height) × (key.height ≤ 16384)) → IsDecided (IsKey key)
-  by_parts (inl u) (inl s) (inl w) (inl h) = inl (record { url = u; sig = s; wide = w.0; high = h.0; width = w.1; height = h.1 })
-  by_parts (inr out) s w h = inr (λ k. out k.url)
-  by_parts (inl u) (inr out) w h = inr (λ k. out k.sig)
-  by_parts (inl u) (inl s) (inr out) h = inr (λ k. out (k.wide, k.width))
-  by_parts (inl u) (inl s) (inl w) (inr out) = inr (λ k. out (k.high, k.height))
+at_most : (m n : ℕ) → Answers (nat_le m n) (m ≤ n)
+at_most m n = (leb-true m n, le-leb m n)
+
+key_test : (key : Key) → Answers (is_key key) (IsKey key)
+key_test key =
+    let all = both _ _ _ _ (at_most (length key.url) 1024) (both _ _ _ _ (at_most (length key.sig) 64)
+    (both _ _ _ _ (at_most 1 key.width) (both _ _ _ _ (at_most 1 key.height) (both _ _ _ _ (at_most key.width 16384) (at_most key.height 16384))))) in (
+      λ e. let k = all.0 e in record { url = k.0; sig = k.1.0; wide = k.1.1.0; high = k.1.1.1.0; width = k.1.1.1.1.0; height = k.1.1.1.1.1 },
+      λ k. all.1 (k.url, (k.sig, (k.wide, (k.high, (k.width, k.height))))),
+    )
+
+same_pair : (p q : Pair) → Answers (is_pair p q) (p ≡ q)
+same_pair p q = (
+  λ e. let parts = and_parts (bytes_eq p.0 q.0) (bytes_eq p.1 q.1) e in λ i. (sym (same_if q.0 p.0 parts.0) i, sym (same_if q.1 p.1 parts.1) i),
+  λ e. and_from (bytes_eq p.0 q.0) (bytes_eq p.1 q.1) (true_if q.0 p.0 (sym (ap (λ (x : Pair). x.0) e))) (true_if q.1 p.1 (sym (ap (λ (x : Pair). x.1) e))),
+)
+
+some_text : (a b : List ℕ) → Some a ≡ Some b → a ≡ b
+some_text a b e = cc
+
+text_test : (payload : List ℕ) (o : Option (List ℕ)) → Answers (is_text payload o) (o ≡ Some payload)
+text_test payload None = (λ e. cc, λ e. cc)
+text_test payload (Some text) = (λ e. ap Some (same_if text payload e), λ e. true_if text payload (some_text text payload e))
 
 abbrev IsRawOf : Option (Result Picture Refusal) → List ℕ → Type 0
 IsRawOf o payload = (picture : Picture) × (o ≡ Some (Ok picture)) × (payload ≡ raw_text picture)
@@ -151,71 +151,53 @@ IsRawOf o payload = (picture : Picture) × (o ≡ Some (Ok picture)) × (payload
 one_picture : (a b : Picture) (o : Option (Result Picture Refusal)) → o ≡ Some (Ok a) → o ≡ Some (Ok b) → a ≡ b
 one_picture a b o x y = cc
 
-is_raw : (o : Option (Result Picture Refusal)) (payload : List ℕ) → IsDecided (IsRawOf o payload)
-is_raw None payload = inr (λ x. let bad = x.1 in cc)
-is_raw (Some (Err refusal)) payload = inr (λ x. let bad = x.1 in cc)
-is_raw (Some (Ok picture)) payload = raw_of picture (same_bytes payload (raw_text picture)) where
-  raw_of : (p : Picture) → IsDecided (payload ≡ raw_text p) → IsDecided (IsRawOf (Some (Ok p)) payload)
-  raw_of p (inl e) = inl (p, refl, e)
-  raw_of p (inr out) = inr (λ x. out (x.2 ∙ ap raw_text (one_picture x.0 p (Some (Ok p)) x.1 refl)))
+raw_test : (payload : List ℕ) (o : Option (Result Picture Refusal)) → Answers (is_raw payload o) (IsRawOf o payload)
+raw_test payload None = (λ e. let bad : false ≡ true = e in cc, λ x. let bad = x.1 in cc)
+raw_test payload (Some (Err refusal)) = (λ e. let bad : false ≡ true = e in cc, λ x. let bad = x.1 in cc)
+raw_test payload (Some (Ok picture)) = (
+  λ e. (picture, refl, sym (same_if (raw_text picture) payload e)),
+  λ x. true_if (raw_text picture) payload (ap raw_text (one_picture picture x.0 (Some (Ok picture)) refl x.1) ∙ sym x.2),
+)
 
-is_payload : (content : Contents) (which : Which) (key : Key) (payload : List ℕ) → IsDecided (IsPayload content which key payload)
-is_payload content SourceBytes key payload = is_this (get content (address_of key)) payload
-is_payload content Outcome key payload = is_raw (picture_in content key) payload
+payload_test : (content : Contents) (which : Which) (key : Key) (payload : List ℕ) → Answers (is_payload content which key payload) (IsPayload content which key payload)
+payload_test content SourceBytes key payload = text_test payload (get content (address_of key))
+payload_test content Outcome key payload = raw_test payload (picture_in content key)
 
--- ---- the keys that a text may be an entry of
+-- ---- guesses
 
-abbrev bytes_in : ℕ → List ℕ → List ℕ
-bytes_in n text = take n (drop 8 text)
-
-abbrev payload_in : ℕ → List ℕ → List ℕ
-payload_in n text = drop (n + 12) text
-
--- where the texts of the key end, and its other fields
-record Cut : Type 0 where
-  url : ℕ
-  sig : ℕ
-  width : ℕ
-  height : ℕ
-  transform : Transform
-  config : Config
-  rule : Rule
-
-abbrev key_in : Cut → List ℕ → Key
-key_in cut bytes = record {
-  url = take cut.url (drop 5 bytes);
-  sig = take cut.sig (drop (cut.url + 4) (drop 5 bytes));
-  width = cut.width;
-  height = cut.height;
-  transform = cut.transform;
-  config = cut.config;
-  rule = cut.rule;
+abbrev guess_of : Which → ℕ → ℕ → ℕ → ℕ → ℕ → Transform → Config → Rule → Guess
+guess_of which bytes url sig width height transform config rule = record {
+  which = which;
+  bytes = bytes;
+  url = url;
+  sig = sig;
+  width = width;
+  height = height;
+  transform = transform;
+  config = config;
+  rule = rule;
 }
 
+abbrev EachGuess : ℕ → (Guess → Type 0) → Type 0
+EachGuess size P = (which : Which) (bytes : ℕ) → bytes < size → (url : ℕ) → url < size → (sig : ℕ) → sig < size → (width : ℕ) → width < 16385 → (height : ℕ) → height < 16385
+    → (transform : Transform) (config : Config) (rule : Rule) → P (guess_of which bytes url sig width height transform config rule)
+
+all_guesses : (P : Guess → Type 0) (test : Guess → Bool) (size : ℕ) → ((g : Guess) → Answers (test g) (P g)) → Answers (each_guess size test) (EachGuess size P)
+all_guesses P test size each =
+    all_kinds _ _ (λ which. below _ _ size (λ bytes. below _ _ size (λ url. below _ _ size (λ sig. below _ _ 16385 (λ width. below _ _ 16385 (λ height.
+    all_transforms _ _ (λ transform. all_configs _ _ (λ config. all_rules _ _ (λ rule. each (guess_of which bytes url sig width height transform config rule))))))))))
+
 -- the pair is right as far as it is an entry of this key
-abbrev RightAt : Contents → Pair → Which → ℕ → Cut → Type 0
-RightAt content pair which n cut =
-    IsKey (key_in cut (bytes_in n pair.1)) → pair ≡ entry_of which (key_in cut (bytes_in n pair.1)) (payload_in n pair.1)
-    → IsPayload content which (key_in cut (bytes_in n pair.1)) (payload_in n pair.1)
+abbrev RightFor : Contents → Pair → Guess → Type 0
+RightFor content pair guess =
+    IsKey (key_in guess pair.1) × (pair ≡ entry_of guess.which (key_in guess pair.1) (payload_in guess pair.1))
+    → IsPayload content guess.which (key_in guess pair.1) (payload_in guess pair.1)
 
-right_at : (content : Contents) (pair : Pair) (which : Which) (n : ℕ) (cut : Cut) → IsDecided (RightAt content pair which n cut)
-right_at content pair which n cut =
-    let key = key_in cut (bytes_in n pair.1) in
-    let payload = payload_in n pair.1 in
-    if_then (IsKey key) (pair ≡ entry_of which key payload → IsPayload content which key payload) (is_key key)
-    (λ k. if_then (pair ≡ entry_of which key payload) (IsPayload content which key payload) (same_pair pair (entry_of which key payload)) (λ e. is_payload content which key payload))
-
-abbrev cut_of : ℕ → ℕ → ℕ → ℕ → Transform → Config → Rule → Cut
-cut_of url sig width height transform config rule = record { url = url; sig = sig; width = width; height = height; transform = transform; config = config; rule = rule }
-
-abbrev RightBelow : Contents → Pair → Type 0
-RightBelow content pair = (which : Which) (n : ℕ) → n < 2 ^ 32 → (url : ℕ) → url < 1025 → (sig : ℕ) → sig < 65 → (width : ℕ) → width < 16385 → (height : ℕ) → height < 16385
-    → (transform : Transform) (config : Config) (rule : Rule) → RightAt content pair which n (cut_of url sig width height transform config rule)
-
-right_below : (content : Contents) (pair : Pair) → IsDecided (RightBelow content pair)
-right_below content pair =
-    each_which _ (λ which. all_below _ (2 ^ 32) (λ n. all_below _ 1025 (λ url. all_below _ 65 (λ sig. all_below _ 16385 (λ width. all_below _ 16385 (λ height.
-    each_transform _ (λ transform. each_config _ (λ config. each_rule _ (λ rule. right_at content pair which n (cut_of url sig width height transform config rule))))))))))
+right_for : (content : Contents) (pair : Pair) (guess : Guess) → Answers (is_right_for content pair guess) (RightFor content pair guess)
+right_for content pair guess =
+    let key = key_in guess pair.1 in
+    let payload = payload_in guess pair.1 in
+    if_then _ _ _ _ (both _ _ _ _ (key_test key) (same_pair pair (entry_of guess.which key payload))) (payload_test content guess.which key payload)
 
 -- ---- each key that a pair is an entry of is one of these
 
@@ -232,10 +214,23 @@ texts_in : (which : Which) (key : Key) → drop 5 (key_bytes_of which key) ≡ k
 texts_in SourceBytes key = ap (λ l. key.url ++ (to_le_bytes w32 (length key.sig) ++ l)) (sym (append-nil key.sig))
 texts_in Outcome key = regrouped key.url (to_le_bytes w32 (length key.sig)) key.sig (to_le_bytes w32 key.width) (to_le_bytes w32 key.height) (choice_bytes key)
 
-abbrev cut_at : Key → Cut
-cut_at key = cut_of (length key.url) (length key.sig) key.width key.height key.transform key.config key.rule
+-- the guess that is true of a key
+abbrev guess_at : Which → Key → Guess
+guess_at which key = guess_of which (length (key_bytes_of which key)) (length key.url) (length key.sig) key.width key.height key.transform key.config key.rule
 
-key_found : (which : Which) (key : Key) → key_in (cut_at key) (key_bytes_of which key) ≡ key
+-- what is found in key bytes
+abbrev found_in : Guess → List ℕ → Key
+found_in guess bytes = record {
+  url = take guess.url (drop 5 bytes);
+  sig = take guess.sig (drop (guess.url + 4) (drop 5 bytes));
+  width = guess.width;
+  height = guess.height;
+  transform = guess.transform;
+  config = guess.config;
+  rule = guess.rule;
+}
+
+key_found : (which : Which) (key : Key) → found_in (guess_at which key) (key_bytes_of which key) ≡ key
 key_found which key =
     let words = to_le_bytes w32 (length key.sig) in
     let rest = key.sig ++ rest_of which key in
@@ -247,58 +242,93 @@ key_found which key =
     let sig : take (length key.sig) (drop (length key.url + 4) (drop 5 (key_bytes_of which key))) ≡ key.sig = ap (take (length key.sig)) behind ∙ take_at key.sig (rest_of which key) (length key.sig) refl in
     λ i. record { url = url i; sig = sig i; width = key.width; height = key.height; transform = key.transform; config = key.config; rule = key.rule }
 
-bytes_found : (bytes payload : List ℕ) → bytes_in (length bytes) (envelope bytes payload) ≡ bytes
+bytes_found : (bytes payload : List ℕ) → take (length bytes) (drop 8 (envelope bytes payload)) ≡ bytes
 bytes_found bytes payload =
     ap (λ t. take (length bytes) (drop 8 t)) (unfolded bytes payload) ∙ take_at bytes (to_le_bytes w32 (length payload) ++ payload) (length bytes) refl
 
-all_right : (content : Contents) (pair : Pair) → RightBelow content pair → IsRight content pair
-all_right content pair below which key payload is same =
+-- its parts are shorter than the text
+bytes_short : (bytes payload : List ℕ) → length bytes < length (envelope bytes payload)
+bytes_short bytes payload = omega (arith, ap length (unfolded bytes payload), length-append bytes (to_le_bytes w32 (length payload) ++ payload))
+
+texts_short : (which : Which) (key : Key) → (length key.url ≤ length (key_bytes_of which key)) × (length key.sig ≤ length (key_bytes_of which key))
+texts_short which key =
+    let words = to_le_bytes w32 (length key.sig) in
+    let rest = rest_of which key in
+    let all = ap length (texts_in which key) in
+    let a = length-append key.url (words ++ (key.sig ++ rest)) in
+    let b = length-append words (key.sig ++ rest) in
+    let c = length-append key.sig rest in
+    let d = length-drop 5 (key_bytes_of which key) in
+    (omega (arith, all, a, b, c, d), omega (arith, all, a, b, c, d))
+
+all_right : (content : Contents) (pair : Pair) → EachGuess (length pair.1) (RightFor content pair) → IsRight content pair
+all_right content pair each which key payload is same =
     let bytes = key_bytes_of which key in
     let n = length bytes in
+    let guess = guess_at which key in
     let text : pair.1 ≡ envelope bytes payload = ap (λ (p : Pair). p.1) same in
-    let bytes_are : bytes_in n pair.1 ≡ bytes = ap (bytes_in n) text ∙ bytes_found bytes payload in
-    let key_is : key_in (cut_at key) (bytes_in n pair.1) ≡ key = ap (key_in (cut_at key)) bytes_are ∙ key_found which key in
-    let payload_is : payload_in n pair.1 ≡ payload = ap (payload_in n) text ∙ drop_front bytes payload in
-    let here = below which n (bytes_small which key is) (length key.url) (omega (arith, is.url)) (length key.sig) (omega (arith, is.sig)) key.width (omega (arith, is.width)) key.height (omega (arith, is.height)) key.transform key.config key.rule in
-    subst (λ k. IsPayload content which k payload) key_is (subst (IsPayload content which (key_in (cut_at key) (bytes_in n pair.1))) payload_is
-    (here (subst IsKey (sym key_is) is) (same ∙ sym (λ i. entry_of which (key_is i) (payload_is i)))))
+    let bytes_are : take n (drop 8 pair.1) ≡ bytes = ap (λ t. take n (drop 8 t)) text ∙ bytes_found bytes payload in
+    let key_is : key_in guess pair.1 ≡ key = ap (found_in guess) bytes_are ∙ key_found which key in
+    let payload_is : payload_in guess pair.1 ≡ payload = ap (payload_in guess) text ∙ drop_front bytes payload in
+    let size = ap length text in
+    let whole = bytes_short bytes payload in
+    let short = texts_short which key in
+    let here = each which n (omega (arith, size, whole)) (length key.url) (omega (arith, size, whole, short.0)) (length key.sig) (omega (arith, size, whole, short.1)) key.width (omega (arith, is.width)) key.height (omega (arith, is.height)) key.transform key.config key.rule in
+    subst (λ k. IsPayload content which k payload) key_is (subst (IsPayload content which (key_in guess pair.1)) payload_is
+    (here (subst IsKey (sym key_is) is, same ∙ sym (λ i. entry_of which (key_is i) (payload_is i)))))
 
-decided_pair : (content : Contents) (pair : Pair) → IsDecided (IsRight content pair)
-decided_pair content pair = by_below (right_below content pair) where
-  by_below : IsDecided (RightBelow content pair) → IsDecided (IsRight content pair)
-  by_below (inl below) = inl (all_right content pair below)
-  by_below (inr out) = inr (λ right. out (λ which n n_lt url url_lt sig sig_lt width width_lt height height_lt transform config rule.
-      right which (key_in (cut_of url sig width height transform config rule) (bytes_in n pair.1)) (payload_in n pair.1)))
+pair_test : (content : Contents) (pair : Pair) → Answers (is_right content pair) (IsRight content pair)
+unfolding is_right
+pair_test content pair =
+    let all = all_guesses (RightFor content pair) (is_right_for content pair) (length pair.1) (right_for content pair) in (
+      λ e. all_right content pair (all.0 e),
+      λ right. all.1 (λ which bytes bytes_lt url url_lt sig sig_lt width width_lt height height_lt transform config rule is.
+          let guess = guess_of which bytes url sig width height transform config rule in
+          right which (key_in guess pair.1) (payload_in guess pair.1) is.0 is.1),
+    )
 
-decided_list : (content : Contents) (pairs : List Pair) → IsDecided (AreRight content pairs)
-decided_list content [] = inl tt
-decided_list content (p ∷ pairs) = both (IsRight content p) (AreRight content pairs) (decided_pair content p) (decided_list content pairs)
+list_test : (content : Contents) (pairs : List Pair) → Answers (list_all (is_right content) pairs) (AreRight content pairs)
+list_test content [] = (λ e. tt, λ all. refl)
+list_test content (p ∷ pairs) = both _ _ _ _ (pair_test content p) (list_test content pairs)
+
+folder_test : (content : Contents) (folder : Folder) → Answers (offers_right content folder) (OffersRight content folder)
+folder_test content folder = list_test content (offered folder)
+
+decided : (test : Bool) (P : Type 0) → Answers test P → IsDecided P
+decided true P x = inl (x.0 refl)
+decided false P x = inr (λ p. let bad : false ≡ true = x.1 p in cc)
 
 pub decided_folder : (content : Contents) (folder : Folder) → IsDecided (OffersRight content folder)
-decided_folder content folder = decided_list content (offered folder)
+decided_folder content folder = decided (offers_right content folder) (OffersRight content folder) (folder_test content folder)
 
 -- ---- the truth of a run
 
 some_content : (c d : Contents) → Some c ≡ Some d → c ≡ d
 some_content c d e = cc
 
-pub has_truth : (told : Option Contents) (files : Option FolderHistory) → HasTruth told files
-has_truth None files = (None, λ content. (λ e. cc, λ truth. let bad = truth.told_is in cc))
-has_truth (Some told) None = (None, λ content. (λ e. cc, λ truth. let bad = truth.holds.known in cc))
-has_truth (Some told) (Some history) = by_folder (decided_folder told history.held) where
-  by_folder : IsDecided (OffersRight told history.held) → HasTruth (Some told) (Some history)
-  by_folder (inl right) = (
-    Some told,
-    λ content. (
-      λ e. record { told_is = e; holds = record { history = history; known = refl; right = subst (λ c. OffersRight c history.held) (some_content told content e) right } },
-      λ truth. truth.told_is,
-    ),
+pub truth_is : (told : Option Contents) (files : Option FolderHistory) → IsTruthOf told files (truth_of told files)
+truth_is None files content = (λ e. cc, λ truth. let bad = truth.told_is in cc)
+truth_is (Some told) None content = (λ e. cc, λ truth. let bad = truth.holds.known in cc)
+truth_is (Some told) (Some history) content = by_test (offers_right told history.held) refl where
+  by_test : (test : Bool) → offers_right told history.held ≡ test
+      → ((if test then Some told else None) ≡ Some content → IsTruth (Some told) (Some history) content) × (IsTruth (Some told) (Some history) content → (if test then Some told else None) ≡ Some content)
+  by_test true is = (
+    λ e. record { told_is = e; holds = record { history = history; known = refl; right = subst (λ c. OffersRight c history.held) (some_content told content e) ((folder_test told history.held).0 is) } },
+    λ truth. truth.told_is,
   )
-  by_folder (inr out) = (
-    None,
-    λ content. (
-      λ e. cc,
-      λ truth. absurd (out (subst (λ c. OffersRight c history.held) (sym (some_content told content truth.told_is))
-          (subst (λ (j : FolderHistory). OffersRight content j.held) (some_folder truth.holds.history history (sym truth.holds.known)) truth.holds.right))),
-    ),
+  by_test false is = (
+    λ e. cc,
+    λ truth.
+        let right = subst (λ c. OffersRight c history.held) (sym (some_content told content truth.told_is))
+        (subst (λ (j : FolderHistory). OffersRight content j.held) (some_folder truth.holds.history history (sym truth.holds.known)) truth.holds.right) in
+        let bad : false ≡ true = sym is ∙ (folder_test told history.held).1 right in
+        cc,
   )
+
+pub truth_holds : (told : Option Contents) (files : Option FolderHistory) → HoldsRightIn (truth_of told files) files
+truth_holds None files = tt
+truth_holds (Some told) None = tt
+truth_holds (Some told) (Some history) = by_test (offers_right told history.held) refl where
+  by_test : (test : Bool) → offers_right told history.held ≡ test → HoldsRightIn (if test then Some told else None) (Some history)
+  by_test true is = record { history = history; known = refl; right = (folder_test told history.held).0 is }
+  by_test false is = tt

@@ -6,6 +6,7 @@ pub use Rattle.disk_lru.specs.State
 pub use Rattle.disk_lru.specs.Past
 pub mod Envelopes
 pub mod Right
+pub mod Truth
 pub mod World
 pub mod DiskCalls
 pub mod Steps

@@ -74,7 +74,3 @@ IsTruthOf told files truth = (content : Contents) → (truth ≡ Some content) �
 
 abbrev pub IsDecided : Type 0 → Type 0
 IsDecided P = P ⊎ (P → ⊥)
-
--- and so there is just one truth of a run, or none
-abbrev pub HasTruth : Option Contents → Option FolderHistory → Type 0
-HasTruth told files = (truth : Option Contents) × IsTruthOf told files truth

@@ -7,7 +7,8 @@ ghost use Rattle.cache_key.specs.declared.bytes.Which.{Which};
 ghost use Rattle.cache_key.specs.Key.{Key, IsKey};
 ghost use Rattle.store_world.specs.declared.events.StoreEvent.{StoreEvent};
 ghost use Rattle.store_world.specs.Envelopes.{envelope, payload_of};
-ghost use Rattle.store_world.specs.Right.{IsPayload, entry_of, IsRight, OffersRight, IsDecided, HasTruth};
+ghost use Rattle.store_world.specs.Right.{IsPayload, entry_of, IsRight, OffersRight, HoldsRightIn, IsTruthOf, IsDecided};
+ghost use Rattle.store_world.specs.Truth.{truth_of};
 ghost use Rattle.store_world.specs.World.{World};
 ghost use Rattle.store_world.specs.Knowledge.{no_knowledge};
 ghost use Rattle.store_world.specs.Sound.{Sound};
@@ -41,10 +42,14 @@ pub fn entries_are_right()
     key_bytes_tell_apart();
 }
 
-/// Whether a folder offers only what is right under a content can be decided, and so there is a truth of each run, or none.
+/// Whether a folder offers only what is right under a content can be decided, and so the truth of each run can be found: one, or
+/// none.
 pub fn rightness_is_decided()
     ensures folder { (content : Contents) (folder : Folder) → IsDecided (OffersRight content folder) }
-    ensures truth { (told : Option Contents) (files : Option FolderHistory) → HasTruth told files }
+    ensures truth { (told : Option Contents) (files : Option FolderHistory)
+        → IsTruthOf told files (truth_of told files) }
+    ensures right { (told : Option Contents) (files : Option FolderHistory)
+        → HoldsRightIn (truth_of told files) files }
 {}
 
 /// From a sound world, an event that its seat is permitted leaves a sound one.
