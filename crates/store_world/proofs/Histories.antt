@@ -4,12 +4,13 @@ use Rattle.std.specs.Prelude.{is_some, get_or, ⊤, ◌||◌}
 use Rattle.std.specs.declared.option.Option.{Option}
 use Rattle.std.specs.Option.{option_map}
 use Rattle.std.specs.List.{AllByRecursion}
+use Rattle.std.proofs.lemmas.Bool.{eqb-true, eq-eqb, false_from_ne_true}
 use Rattle.std.proofs.lemmas.List.{append_assoc, append-nil, append_cancel_left}
 use Rattle.outside.specs.Content.{Contents}
 use Rattle.outside.specs.Files.{Folder, FolderHistory, last_of, passed_through}
 use Rattle.state_machine.specs.declared.entry.Entry.{Entry}
 use Rattle.state_machine.specs.declared.machine.Machine.{Ghosts}
-use Rattle.state_machine.specs.Histories.{own}
+use Rattle.state_machine.specs.Histories.{entry, own}
 use Rattle.state_machine.specs.Legal.{Leads, IsLegal}
 use Rattle.disk_table.specs.UseOrder.{Entries}
 use Rattle.disk_table.specs.Table.{edit_of}
@@ -31,8 +32,8 @@ use Rattle.store_world.specs.Knowledge.{Knowledge, no_knowledge, updated, update
 use Rattle.store_world.specs.Permits.{Permits}
 use Rattle.store_world.specs.Sound.{one_if, seat_count, taken, keys_under_edit, IsSeated, IsOrderly, IsHolding, open_at, open_count, IsRightDisk, IsRightStore, Sound}
 use Rattle.store_world.specs.StoreMachine.{IsOpening, BeganRight, store_machine}
-use Rattle.store_world.specs.Laws.{handed_by_event, PassesRight}
-use Rattle.store_world.specs.Histories.{committed_after, committed_in, AlwaysSound, AlwaysOff, AlwaysRight, AlwaysGiven, IsRun, RunsStayRight}
+use Rattle.store_world.specs.Laws.{SameSettings, handed_by_event, PassesRight}
+use Rattle.store_world.specs.Histories.{OwnEntriesTell, OthersLearnNothing, committed_after, committed_in, AlwaysSound, StaysSound, AlwaysOff, AlwaysRight, AlwaysGiven, IsRun, RunsStayRight}
 use Rattle.store_world.proofs.Allowed.{some_folder, runs_then, runs_weaken, among_has, all_among, all_front, all_back, allows_same, weaken}
 use Rattle.store_world.proofs.Quiet.{closed_kept}
 use Rattle.store_world.proofs.EventLaws.{event_law}
@@ -103,6 +104,16 @@ knows_more past e k =
     let joined : knowledge_in (past ++ e ∷ []) k ≡ updated_by (knowledge_in past k) (own k (e ∷ [])) = ap learned (own-append k past (e ∷ [])) ∙ updated_by-append no_knowledge (own k past) (own k (e ∷ [])) in
     elim (eqb e.by k) as (λ t. cond t (updated e.note.event e.note.reply (knowledge_in past k)) (knowledge_in past k) ≡ updated_by (knowledge_in past k) (cond t (e ∷ []) [])) [ true ↦ refl | false ↦ refl ] ∙ sym joined
 
+pub own_entries_tell : OwnEntriesTell
+own_entries_tell past who note =
+    ap learned (own-append who past (entry who note ∷ []) ∙ ap (λ b. own who past ++ cond b (entry who note ∷ []) []) (eq-eqb who who refl))
+    ∙ updated_by-append no_knowledge (own who past) (entry who note ∷ [])
+
+pub others_learn_nothing : OthersLearnNothing
+others_learn_nothing past who other note apart =
+    let not : eqb who other ≡ false = false_from_ne_true (eqb who other) (λ is. apart (sym (eqb-true who other is))) in
+    ap learned (own-append other past (entry who note ∷ []) ∙ ap (λ b. own other past ++ cond b (entry who note ∷ []) []) not ∙ append-nil (own other past))
+
 same_known : (w : World) (known known' : ℕ → Knowledge) → ((k : ℕ) → known' k ≡ known k) → Sound w known → Sound w known'
 same_known w known known' same s = record {
   seated = s.seated;
@@ -169,6 +180,19 @@ module _ {M : Type 0} (opening now : M → World) (history : M → List (Entry N
 
   pub always_sound : AlwaysSound opening now history
   always_sound content before w z past o holds legal = (sound_after content before w z past o holds legal).0
+
+  -- the settings
+  settings_carried : Carried SameSettings (λ w k e. ⊤)
+  settings_carried = record {
+    here = λ w known s. record { off = refl; content = refl; maximum = refl };
+    then_ = λ a b c x y. record { off = y.off ∙ x.off; content = y.content ∙ x.content; maximum = y.maximum ∙ x.maximum };
+    step = λ w z known e small s permits asked step. settings_law e.note.event w z e.by e.note.reply step;
+  }
+
+  pub stays_sound : StaysSound opening now history
+  stays_sound w z past sound legal =
+      through SameSettings (λ w k e. ⊤) settings_carried w.content [] past w z refl sound legal.leads
+      (λ xs ys e at. let may = legal.asked xs ys e at in (may.seat, may.asked)) (λ xs ys e between at l. tt)
 
   -- what is off stays as it is
   abbrev StaysOff : World → World → Type 0

@@ -1,10 +1,11 @@
 -- What holds through each history of the store, and over any list of runs on one folder. It is this project's
 -- own.
-use Rattle.std.specs.Prelude.{◌≡◌, ℕ, zero, suc, true, List, ◌∷◌, ◌++◌, take, Some, []}
+use Rattle.std.specs.Prelude.{◌≡◌, ◌≢◌, ℕ, zero, suc, true, List, ◌∷◌, ◌++◌, take, Some, []}
 use Rattle.std.specs.declared.option.Option.{Option}
 use Rattle.outside.specs.Content.{Contents}
 use Rattle.outside.specs.Files.{Folder, FolderHistory, last_of, passed_through}
 use Rattle.state_machine.specs.declared.entry.Entry.{Entry}
+use Rattle.state_machine.specs.Histories.{entry}
 use Rattle.state_machine.specs.Legal.{Leads, IsLegal}
 use Rattle.cache_folder.specs.Images.{IfKnown, Runs}
 use Rattle.cache_folder.specs.Offered.{offered}
@@ -14,11 +15,24 @@ use Rattle.disk_lru.specs.Staying.{EntryStays}
 use Rattle.store_world.specs.declared.events.Note.{Note}
 use Rattle.store_world.specs.Right.{Pair, OffersRight, HoldsRightIn}
 use Rattle.store_world.specs.World.{World}
-use Rattle.store_world.specs.Knowledge.{knowledge_in}
+use Rattle.store_world.specs.Knowledge.{no_knowledge, updated, knowledge_in}
 use Rattle.store_world.specs.Sound.{Sound}
-use Rattle.store_world.specs.Laws.{handed_by_event}
+use Rattle.store_world.specs.Laws.{SameSettings, handed_by_event}
 use Rattle.store_world.specs.StoreMachine.{IsOpening, BeganRight, store_machine}
 use Rattle.store_world.specs.Staying.{MayTake}
+
+-- ---- what seats learn
+
+-- An entry more tells its own seat of its event and its reply.
+abbrev pub OwnEntriesTell : Type 0
+OwnEntriesTell = (past : List (Entry Note)) (who : ℕ) (note : Note)
+    → knowledge_in (past ++ entry who note ∷ []) who
+    ≡ updated note.event note.reply (knowledge_in past who)
+
+-- It tells the other seats nothing.
+abbrev pub OthersLearnNothing : Type 0
+OthersLearnNothing = (past : List (Entry Note)) (who other : ℕ) (note : Note) → other ≢ who
+    → knowledge_in (past ++ entry who note ∷ []) other ≡ knowledge_in past other
 
 -- ---- what a history commits
 
@@ -45,6 +59,12 @@ module _ {M : Type 0} (opening now : M → World) (history : M → List (Entry N
   AlwaysSound = (content : Option Contents) (before : Option FolderHistory) (w z : World)
       (past : List (Entry Note)) → IsOpening content before w → BeganRight content before w
       → IsLegal (store_machine opening now history) w past z → Sound z (knowledge_in past)
+
+  -- From a sound opening, each legal history leads to a sound world with the settings of the opening.
+  abbrev pub StaysSound : Type 0
+  StaysSound = (w z : World) (past : List (Entry Note)) → Sound w (λ who. no_knowledge)
+      → IsLegal (store_machine opening now history) w past z
+      → Sound z (knowledge_in past) × SameSettings w z
 
   -- A store that is off stays as it opened.
   abbrev pub AlwaysOff : Type 0
@@ -116,6 +136,10 @@ module _ {M : Type 0} (opening now : M → World) (history : M → List (Entry N
 abbrev pub HistoriesAreSound : Type 0 → Type 0
 HistoriesAreSound M =
     (opening now : M → World) (history : M → List (Entry Note)) → AlwaysSound opening now history
+
+abbrev pub HistoriesStaySound : Type 0 → Type 0
+HistoriesStaySound M =
+    (opening now : M → World) (history : M → List (Entry Note)) → StaysSound opening now history
 
 abbrev pub HistoriesKeepOff : Type 0 → Type 0
 HistoriesKeepOff M =

@@ -15,7 +15,7 @@ ghost use Rattle.store_world.specs.Sound.{Sound};
 ghost use Rattle.store_world.specs.StoreMachine.{IsOpening, BeganRight};
 ghost use Rattle.store_world.specs.Laws.{KeepsSound, KeepsSettings, KeepsOff, KeepsNumbers, HoldersBegin, HoldersWrite, RequestsAreFew, OneMoreFits, OneHolder, KeepsWithin, KeepsRight, FetchesRight, CommitStores, RoomKeeps, EvictsOneMore};
 ghost use Rattle.store_world.specs.Staying.{KeepsEntries};
-ghost use Rattle.store_world.specs.Histories.{HistoriesAreSound, HistoriesKeepOff, HistoriesAreRight, HistoriesOfferGiven, HistoriesKeepEntries, FoldersStayRight};
+ghost use Rattle.store_world.specs.Histories.{OwnEntriesTell, OthersLearnNothing, HistoriesAreSound, HistoriesStaySound, HistoriesKeepOff, HistoriesAreRight, HistoriesOfferGiven, HistoriesKeepEntries, FoldersStayRight};
 
 use cache_folder::calls_keep_others;
 use cache_key::key_bytes_tell_apart;
@@ -131,6 +131,12 @@ pub fn evictions_go_on()
     ensures { EvictsOneMore }
 {}
 
+/// What a seat knows grows by its own entries alone.
+pub fn seats_learn_by_their_own_entries()
+    ensures own { OwnEntriesTell }
+    ensures others { OthersLearnNothing }
+{}
+
 /// What a store opens with is sound.
 pub fn openings_are_sound()
     ensures { (content : Option Contents) (before : Option FolderHistory) (w : World)
@@ -140,6 +146,11 @@ pub fn openings_are_sound()
 /// Each world that a legal history leads to is sound.
 pub fn each_history_is_sound<M>()
     ensures { HistoriesAreSound M }
+{}
+
+/// From a sound opening, each legal history leads to a sound world with the settings of the opening.
+pub fn each_history_stays_sound<M>()
+    ensures { HistoriesStaySound M }
 {}
 
 /// A store that is off stays as it opened, whatever its seats do.
