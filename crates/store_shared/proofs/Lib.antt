@@ -1,0 +1,5 @@
+pub mod Chained
+pub mod Replying
+pub mod Knowing
+pub mod Reading
+pub mod Writing

@@ -1,0 +1,4 @@
+pub mod Caller
+pub mod Answers
+pub mod Replied
+pub mod Holding

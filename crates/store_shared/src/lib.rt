@@ -1,0 +1,12 @@
+//! The disk store as one of its callers sees it: a read of an entry, and the storing of one.
+#![tactic(auto)]
+
+mod answers;
+mod calls;
+mod fetching;
+mod replied;
+mod steps;
+mod storing;
+
+pub use answers::Stored;
+pub use calls::StoreCalls;
