@@ -3,3 +3,4 @@ pub mod Replying
 pub mod Knowing
 pub mod Reading
 pub mod Writing
+pub mod Owning

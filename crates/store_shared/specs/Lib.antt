@@ -1,4 +1,5 @@
 pub mod Caller
 pub mod Answers
+pub mod Owned
 pub mod Replied
 pub mod Holding

@@ -1,6 +1,7 @@
 //! The disk store as one of its callers sees it: a read of an entry, and the storing of one.
 #![tactic(auto)]
 
+mod alone;
 mod answers;
 mod calls;
 mod fetching;
@@ -8,5 +9,6 @@ mod replied;
 mod steps;
 mod storing;
 
+pub use alone::AloneStore;
 pub use answers::Stored;
 pub use calls::StoreCalls;
