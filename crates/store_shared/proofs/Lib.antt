@@ -4,3 +4,4 @@ pub mod Knowing
 pub mod Reading
 pub mod Writing
 pub mod Owning
+pub mod Seating

@@ -6,9 +6,11 @@ mod answers;
 mod calls;
 mod fetching;
 mod replied;
+mod shared;
 mod steps;
 mod storing;
 
 pub use alone::AloneStore;
 pub use answers::Stored;
 pub use calls::StoreCalls;
+pub use shared::SharedStore;
