@@ -10,5 +10,5 @@ fresh-requires-clause-opens g c =
     let files = g.F.Files.history c.args.files in
     let w : World = off_world files (g.F.Files.faults c.args.files) c.args.told in
     let here : IsOpening c.args.told files w = opens_off files files (g.F.Files.faults c.args.files) c.args.told (known_same files) (offers_same files) in
-    subst (λ (v : World). IsOpening v.content (g.F.Files.history c.of-before.result.value) v) (sym (c.off.ensures ∙ c.new.ensures))
+    subst (λ (v : World). IsOpening v.content (g.F.Files.history c.of-before.result.value) v) (sym {b = w} (c.off.ensures ∙ c.new.ensures))
     (subst (λ f. IsOpening c.args.told (g.F.Files.history f) w) (sym c.of-before.ensures) here)
