@@ -10,7 +10,7 @@ use Rattle.std.proofs.lemmas.Bool.{le-leb, lt-leb}
 use Rattle.std.proofs.lemmas.Slice.Eq.{bytes_eq-Decides}
 use Rattle.disk_table.specs.inside.Kept.{length_at}
 use Rattle.std.specs.Option.{option_flatten}
-use Rattle.disk_table.specs.UseOrder.{Entries, without, value_at, newest, renewed, used, IsOnce, IsShort, length_in, size_of}
+use Rattle.disk_table.specs.UseOrder.{Entries, without, value_at, is_known, newest, renewed, used, IsOnce, IsShort, length_in, size_of}
 
 -- keys that differ
 pub differs : (a b : List ℕ) → a ≢ b → bytes_eq a b ≡ false
@@ -156,11 +156,7 @@ found_has {V} P key v (x ∷ es) h found =
       | false ↦ λ t k. found_has P key v es h.1 k
     ] refl found
 
--- a key that is known, by the test that says so
-pub is_some_is : {V : Type 0} (o : Option V) (b : Bool) → b ≡ is_some o → b ≡ true → IsSome o
-is_some_is None b same holds = cc
-is_some_is (Some v) b same holds = refl
-
+-- a key that is not known, by the test that says so
 pub is_none_is : {V : Type 0} (o : Option V) (b : Bool) → b ≡ is_some o → b ≡ false → o ≡ None
 is_none_is None b same fails = refl
 is_none_is (Some v) b same fails = cc
@@ -169,11 +165,19 @@ is_none_is (Some v) b same fails = cc
 pub fits_known : {V : Type 0} (key : List ℕ) (v : V) (es : Entries V) (n : ℕ) → IsSome (value_at key es) → length es ≤ n → nat_le (length (newest key v es)) n ≡ true
 fits_known key v es n known few = le-leb _ _ (omega (arith, length_newest key v es, known_room key es n known few))
 
-pub fits_new : {V : Type 0} (key : List ℕ) (v : V) (es : Entries V) (n : ℕ) → value_at key es ≡ None → length es < n → nat_le (length (newest key v es)) n ≡ true
-fits_new key v es n unknown few = le-leb _ _ (omega (arith, length_newest key v es, ap length (none_without key es unknown), few))
+-- few entries leave room for any key
+pub fits_few : {V : Type 0} (key : List ℕ) (v : V) (es : Entries V) (n : ℕ) → length es < n → nat_le (length (newest key v es)) n ≡ true
+fits_few key v es n few = le-leb _ _ (omega (arith, length_newest key v es, length_without key es, few))
 
 pub full_new : {V : Type 0} (key : List ℕ) (v : V) (es : Entries V) (n : ℕ) → value_at key es ≡ None → n ≤ length es → nat_le (length (newest key v es)) n ≡ false
 full_new key v es n unknown many = lt-leb _ _ (omega (arith, length_newest key v es, ap length (none_without key es unknown), many))
+
+-- and as many as there may be leave room for a known key alone
+pub fits_full : {V : Type 0} (key : List ℕ) (v : V) (es : Entries V) (n : ℕ) → length es ≤ n → n ≤ length es → nat_le (length (newest key v es)) n ≡ is_known key es
+fits_full {V} key v es n few many = cases (value_at key es) refl where
+  cases : (o : Option V) → value_at key es ≡ o → nat_le (length (newest key v es)) n ≡ is_known key es
+  cases None h = full_new key v es n h many ∙ sym (ap is_some h)
+  cases (Some w) h = fits_known key v es n (subst IsSome (sym h) refl) few ∙ sym (ap is_some h)
 
 -- ---- what is found after a change
 

@@ -10,7 +10,7 @@ use Rattle.journal_lines.specs.declared.lines.Line.TheVariants.{Dirty, Clean, Re
 use Rattle.disk_table.specs.UseOrder.{Entries, value_at, without, newest, is_known}
 use Rattle.disk_table.specs.Table.{key_in, replayed, edit_of, is_under_edit, key_of_edit, ended_with, TableValue, free_edit, is_full_for}
 use Rattle.disk_table.specs.inside.Kept.{AreKnown, AreApart}
-use Rattle.disk_table.proofs.Entries.{value_newest, known_newest, known_without, known_used, is_none_is, fits_known, fits_new, full_new}
+use Rattle.disk_table.proofs.Entries.{value_newest, known_newest, known_without, known_used, is_none_is, fits_known, fits_few, full_new}
 use Rattle.disk_table.proofs.Numbers.{edit_kept}
 use Rattle.disk_table.proofs.Apart.{none_of, closed_free, none_found}
 
@@ -88,7 +88,7 @@ full_or : (es : Entries (Option ℕ)) (key : List ℕ) (v : Option ℕ) (o : Opt
     → (not (is_some o) && nat_le 16400 (length es)) ≡ not (nat_le (length (newest key v es)) 16400)
 full_or es key v None few e = (elim (nat_le 16400 (length es)) as (λ b. nat_le 16400 (length es) ≡ b → b ≡ not (nat_le (length (newest key v es)) 16400)) [
   | true ↦ λ t. sym (ap not (full_new key v es 16400 e (leb-true _ _ t)))
-  | false ↦ λ t. sym (ap not (fits_new key v es 16400 e (leb-false _ _ t)))
+  | false ↦ λ t. sym (ap not (fits_few key v es 16400 (leb-false _ _ t)))
 ]) refl
 full_or es key v (Some w) few e = sym (ap not (fits_known key v es 16400 (subst IsSome (sym e) refl) few))
 

@@ -1,6 +1,6 @@
 -- Entries as the hash map lists them, the most recent first.
 use Rattle.std.proofs.Common.{◌≡◌, ◌≢◌, ℕ, ◌+◌, ◌-◌, ◌≤◌, ◌<◌, true, false, cond, List, [], ◌∷◌, ◌++◌, length, take, Some, None, refl, sym, ap, subst, ◌∙◌, arith, append-nil, zero, suc}
-use Rattle.std.specs.Prelude.{reverse, IsSome, unwrap_or, ◌^◌, Result, Ok, Err, OnOk, OnErr, IsOk}
+use Rattle.std.specs.Prelude.{Bool, reverse, is_some, IsSome, unwrap_or, ◌^◌, Result, Ok, Err, OnOk, OnErr, IfOk, IsOk}
 use Rattle.std.specs.declared.option.Option.{Option}
 use Rattle.std.specs.List.{AllByRecursion}
 use Rattle.std.specs.Map.{lookup, lookup_entry, remove_entry}
@@ -90,10 +90,16 @@ pub on_ok : {T E P : Type 0} (r : Result T E) → OnOk r P → IsOk r → P
 on_ok (Ok x) h k = h
 on_ok (Err e) h k = cc
 
--- what holds holds where a call failed
-pub on_err : {T E P : Type 0} (r : Result T E) → P → OnErr r P
-on_err (Ok x) h = tt
-on_err (Err e) h = h
+-- a call that succeeds for each known key failed for an unknown one
+pub failed_unknown : {V T E : Type 0} (o : Option V) (r : Result T E) (e : E) → r ≡ Err e → (IsSome o → IsOk r) → is_some o ≡ false
+failed_unknown None r e is succeeds = refl
+failed_unknown (Some v) r e is succeeds = let bad = subst IsOk is (succeeds refl) in cc
+
+-- a known key for which there is room is put
+pub put_done : {E X : Type 0} (r : Result Bool E) (fits known : Bool) (new next old : X) → fits ≡ true → known ≡ true → IfOk r (λ put. put ≡ fits)
+    → IfOk r (λ put. new ≡ cond put next old) → OnErr r (known ≡ false) → new ≡ next
+put_done (Ok put) fits known new next old fit is room order fails = order ∙ ap (λ b. cond b next old) (room ∙ fit)
+put_done (Err e) fits known new next old fit is room order fails = let bad = sym fails ∙ is in cc
 
 -- the entry of a key has this very key
 entry_has : {V : Type 0} (key : List ℕ) (es : Entries V) (e : List ℕ × V) → lookup_entry (bytes_eq key) es ≡ Some e → (key ≡ e.0) × (lookup (bytes_eq key) es ≡ Some e.1)

@@ -1,5 +1,5 @@
 // Keys in order of use, with the lengths of their values.
-ghost use Rattle.std.specs.Prelude.{◌≡◌, ◌≤◌, ◌<◌, true, false, nat_le, [], length, None, IsSome, IfOk, OnOk, OnErr, if◌then◌else◌};
+ghost use Rattle.std.specs.Prelude.{◌≡◌, ◌≤◌, ℕ, Option, true, false, nat_le, [], length, None, IsSome, IfOk, OnOk, OnErr, if◌then◌else◌};
 ghost use Rattle.journal_lines.specs.Lines.{HasShortLengths};
 ghost use Rattle.std.specs.Iterator.{at_most};
 ghost use Rattle.std.specs.Map.Iter.{TakesFirst};
@@ -85,28 +85,26 @@ impl UseOrder {
         self.find(key).flatten().unwrap_or(0)
     }
 
-    // Makes a known key the most recent, with this length.
-    pub fn renew(&mut self, key: &Key, clean: Option<u64>)
-        requires known { IsSome (value_at key.now self.old) }
-        requires short { IsShort clean }
-        ensures { self.new ≡ newest key.now clean self.old }
+    // Whether there is room for the key.
+    fn has_room_for(&self, key: &Key) -> bool
+        ensures few { length self.now ≤ 16400 }
+        ensures room { (clean : Option ℕ) → result ≡ nat_le (length (newest key.now clean self.now)) 16400 }
     {
-        let old = self.length_of(key);
-        let _ = self.entries.put(*key, clean);
-        self.size = self.size - old + clean.unwrap_or(0);
+        self.len() < MOST_KEYS || self.find(key).is_some()
     }
 
-    // Adds a new key as the most recent.
-    pub fn add(&mut self, key: &Key, clean: Option<u64>) -> Result<(), NoMemory>
-        requires new { value_at key.now self.old ≡ None }
-        requires room { length self.old < 16400 }
+    // Makes a key for which there is room the most recent, with this length.
+    fn set(&mut self, key: &Key, clean: Option<u64>) -> Result<(), NoMemory>
+        requires room { length (newest key.now clean self.old) ≤ 16400 }
         requires short { IsShort clean }
-        ensures added { OnOk result (self.new ≡ newest key.now clean self.old) }
+        ensures order { OnOk result (self.new ≡ newest key.now clean self.old) }
         ensures err { OnErr result (self.new ≡ self.old) }
+        ensures memory { OnErr result (is_known key.now self.old ≡ false) }
     {
         match self.entries.put(*key, clean) {
-            Ok(_) => {
-                self.size += clean.unwrap_or(0);
+            Ok(old) => {
+                let old = old.flatten().unwrap_or(0);
+                self.size = self.size - old + clean.unwrap_or(0);
                 Ok(())
             }
             Err(_) => Err(NoMemory),
@@ -126,16 +124,20 @@ impl UseOrder {
         ensures room_first { OnErr result
             (nat_le (length (newest key.now clean self.old)) 16400 ≡ true) }
     {
-        let count = self.len();
-        if self.find(key).is_some() {
-            self.renew(key, clean);
-            return Ok(true);
-        }
-        if count >= MOST_KEYS {
+        if !self.has_room_for(key) {
             return Ok(false);
         }
-        self.add(key, clean)?;
+        self.set(key, clean)?;
         Ok(true)
+    }
+
+    // Makes a known key the most recent, with this length.
+    pub fn renew(&mut self, key: &Key, clean: Option<u64>)
+        requires known { IsSome (value_at key.now self.old) }
+        requires short { IsShort clean }
+        ensures { self.new ≡ newest key.now clean self.old }
+    {
+        let _ = self.put(key, clean);
     }
 
     // Does what a line says of its key. False comes exactly where a new key would be one too many.
