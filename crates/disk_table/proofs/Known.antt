@@ -71,11 +71,7 @@ known_closed es edits key n None known free other i at =
     known_without other key es (other_key key other (set edits n None) i (not_under key (set edits n None) free) at) (known other i (set_none other edits n i at))
 known_closed es edits key n (Some v) known free other i at = known_newest other key (Some v) es (known other i (set_none other edits n i at))
 
--- the key of an open edit is known
-pub known_at : (es : Entries (Option ℕ)) (edits : Edits) (key : List ℕ) (n : ℕ) → AreKnown es edits → key_of_edit n edits ≡ Some key → IsSome (value_at key es)
-known_at es edits key n known is = known key n (key_at edits n key is)
-
--- and the key is under edit no longer
+-- the key is under edit no longer
 pub free_closed : (edits : Edits) (key : List ℕ) (n : ℕ) → AreApart edits → key_of_edit n edits ≡ Some key → is_under_edit key (set edits n None) ≡ false
 free_closed edits key n apart is = ap is_some (none_found key (set edits n None) (closed_free key edits n apart (key_at edits n key is)))
 
@@ -98,11 +94,6 @@ full_is table key n v few closed free =
     ap (λ o. not (is_some o) && (not (is_some (free_edit table.edits)) || not (is_known key table.entries) && nat_le 16400 (length table.entries))) closed
     ∙ ap (λ o. not (is_some o) || not (is_known key table.entries) && nat_le 16400 (length table.entries)) free
     ∙ full_or table.entries key v (value_at key table.entries) few refl
-
-pub full_free : (table : TableValue) (key : List ℕ) → edit_of key table.edits ≡ None → free_edit table.edits ≡ None → is_full_for key table ≡ true
-full_free table key closed none =
-    ap (λ o. not (is_some o) && (not (is_some (free_edit table.edits)) || not (is_known key table.entries) && nat_le 16400 (length table.entries))) closed
-    ∙ ap (λ o. not (is_some o) || not (is_known key table.entries) && nat_le 16400 (length table.entries)) none
 
 -- ---- the open edit of a key
 
