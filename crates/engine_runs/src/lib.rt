@@ -1,0 +1,5 @@
+//! Runs of an engine that one caller owns, and of jobs over it and a source in memory. It is tests alone.
+#![tactic(auto)]
+
+#[cfg(test)]
+mod guarded;
