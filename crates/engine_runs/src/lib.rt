@@ -3,3 +3,5 @@
 
 #[cfg(test)]
 mod guarded;
+#[cfg(test)]
+mod tests;
