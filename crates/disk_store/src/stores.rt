@@ -168,7 +168,8 @@ impl<F: Files> Store<F> {
 
     /// Hands the files back. Edits that are open stay as a stop would leave them.
     pub fn into_files(self) -> F
-        ensures { (F.history result ≡ self.world.disk.cache.history) × (F.faults result ≡ self.world.disk.cache.faults) }
+        ensures { (F.history result ≡ self.world.disk.cache.history)
+            × (F.faults result ≡ self.world.disk.cache.faults) }
     {
         let Store {
             state,
