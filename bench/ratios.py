@@ -5,7 +5,8 @@ python3 bench/ratios.py [MODE..], after `cd crates/speed && rt run -- none` has 
 
 A work that has no twin is compared with the one before it whose name differs in numbers alone. Of a mode with a twin the
 greatest resident sizes are compared too; none is told below the 14,000 KiB or so of this script itself. Where the twin did
-not leave the same sums, or print the same other lines, this says so."""
+not leave the same sums, or print the same other lines, this says so. Of a mode with no twin the other lines, which are the
+totals of its runs, are printed as they are."""
 import os
 import re
 import subprocess
@@ -15,7 +16,7 @@ import tempfile
 TURNS = 5
 TOP = os.path.join(os.path.dirname(os.path.abspath(__file__)), "..")
 PROGRAM = os.path.join(TOP, "crates", "speed", "out", "speed")
-MODES = ["rows", "samples", "bitmaps", "turns", "disk"]
+MODES = ["rows", "samples", "bitmaps", "turns", "list", "memory", "pool", "disk"]
 WORK = re.compile(r"(.*): (\d+) microseconds, (\d+)")
 
 

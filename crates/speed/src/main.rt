@@ -4,8 +4,14 @@
 
 mod bitmaps;
 mod disk;
+mod list;
+mod memory;
+mod pictures;
+mod pool;
 mod rows;
+mod runs;
 mod samples;
+mod timed_input;
 mod timing;
 mod turns;
 
@@ -23,6 +29,9 @@ fn time<R: Runtime + Threads + Wait + Sync>(rt: &R, alloc: Global, mode: &str) -
         "samples" => samples::time(rt, alloc),
         "bitmaps" => bitmaps::time(rt, alloc),
         "turns" => turns::time(rt, alloc),
+        "list" => list::time(rt, alloc),
+        "memory" => memory::time(rt, alloc),
+        "pool" => pool::time(rt, alloc),
         "disk" => disk::time(rt, alloc),
         _ => {
             println!(rt; "no such mode: {mode}")?;
