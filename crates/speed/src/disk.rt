@@ -1,8 +1,9 @@
-// A disk cache over files in memory: its start, and its calls with few keys and with many.
+// A disk cache: its start over files in memory, and its calls with few keys and with many.
+use crate::folder;
 use anyhow::{Context, Result, bail};
 use disk_lru::DiskLru;
 use journal_lines::Key;
-use outside::{MemoryFiles, Name};
+use outside::{Files, MemoryFiles, Name};
 use std::alloc::Global;
 use std::fmt::Write;
 use std::rt::Runtime;
@@ -19,14 +20,14 @@ const CALLS: u32 = 900;
 // The most bytes of all entries.
 const ROOM: u64 = 1_000_000;
 
-// The key of a number: 64 digits in hex, as many as SHA-256 has, of which the first 16 are as good as random.
-fn key_text(alloc: Global, number: u32) -> Result<String> {
+/// The key of a number: 64 digits in hex, as many as SHA-256 has, of which the first 16 are as good as random.
+pub fn key_text(alloc: Global, number: u32) -> Result<String> {
     let first = u64::from(number).wrapping_mul(0x9e37_79b9_7f4a_7c15);
     Ok(format!(in alloc; "{first:016x}{number:048x}")?)
 }
 
-// The journal of so many keys, each with 3 bytes, and behind it so many lines of reads.
-fn journal(alloc: Global, keys: u32, reads: u32) -> Result<String> {
+/// The journal of so many keys, each with 3 bytes, and behind it so many lines of reads.
+pub fn journal(alloc: Global, keys: u32, reads: u32) -> Result<String> {
     let mut text = String::from_str(alloc, "libcore.io.DiskLruCache\n1\n1\n1\n\n")?;
     for number in 0..keys {
         let key = key_text(alloc, number)?;
@@ -57,7 +58,7 @@ fn files(alloc: Global, keys: u32, text: &str) -> Result<MemoryFiles> {
 }
 
 // A cache that was started on these files.
-fn started(alloc: Global, files: MemoryFiles) -> Result<DiskLru<MemoryFiles>> {
+fn started<F: Files + Drop>(alloc: Global, files: F) -> Result<DiskLru<F>> {
     DiskLru::start(alloc, files, ROOM)
         .ok()
         .context("the start was refused")
@@ -94,7 +95,7 @@ fn time_start(rt: &impl Runtime, alloc: Global) -> Result<()> {
 }
 
 // Reads the entries of these keys.
-fn get_all(alloc: Global, disk: &mut DiskLru<MemoryFiles>, keys: &[Key]) -> Result<()> {
+fn get_all<F: Files>(alloc: Global, disk: &mut DiskLru<F>, keys: &[Key]) -> Result<()> {
     for key in keys {
         let Ok(Some(_)) = disk.get(alloc, key) else {
             bail!("an entry was not read");
@@ -104,7 +105,7 @@ fn get_all(alloc: Global, disk: &mut DiskLru<MemoryFiles>, keys: &[Key]) -> Resu
 }
 
 // Begins an edit of a key, and commits it.
-fn edit(alloc: Global, disk: &mut DiskLru<MemoryFiles>, key: &Key) -> Result<()> {
+fn edit<F: Files>(alloc: Global, disk: &mut DiskLru<F>, key: &Key) -> Result<()> {
     let Ok(edit) = disk.begin(alloc, key) else {
         bail!("an edit was not begun");
     };
@@ -114,7 +115,7 @@ fn edit(alloc: Global, disk: &mut DiskLru<MemoryFiles>, key: &Key) -> Result<()>
 }
 
 // Begins an edit of each of these keys, and commits it.
-fn edit_all(alloc: Global, disk: &mut DiskLru<MemoryFiles>, keys: &[Key]) -> Result<()> {
+fn edit_all<F: Files>(alloc: Global, disk: &mut DiskLru<F>, keys: &[Key]) -> Result<()> {
     for key in keys {
         edit(alloc, disk, key)?;
     }
@@ -130,29 +131,70 @@ fn called_keys(alloc: Global, keys: u32) -> Result<Vec<Key>> {
     Ok(called)
 }
 
-// Prints how long calls take in a cache that was started with so many keys.
-fn time_calls(rt: &impl Runtime, alloc: Global, keys: u32) -> Result<()> {
-    let text = journal(alloc, keys, 0)?;
+// The microseconds that the reads of these keys take in a cache that is started on the files, which come back.
+fn micros_of_gets<F: Files + Drop>(
+    rt: &impl Runtime,
+    alloc: Global,
+    files: F,
+    called: &[Key],
+) -> Result<(u128, F)> {
+    let mut disk = started(alloc, files)?;
+    let start = Instant::now(rt)?;
+    get_all(alloc, &mut disk, called)?;
+    Ok((start.elapsed(rt)?.as_micros(), disk.into_files()))
+}
+
+// The microseconds that edits of these keys take in a cache that is started on the files, which come back.
+fn micros_of_edits<F: Files + Drop>(
+    rt: &impl Runtime,
+    alloc: Global,
+    files: F,
+    called: &[Key],
+) -> Result<(u128, F)> {
+    let mut disk = started(alloc, files)?;
+    let start = Instant::now(rt)?;
+    edit_all(alloc, &mut disk, called)?;
+    Ok((start.elapsed(rt)?.as_micros(), disk.into_files()))
+}
+
+/// Prints how long the calls take in caches of so many keys, which are started on the files one after the other. The place
+/// says in words where the files lie. Reads come before the edits, which leave entries of no bytes.
+pub fn time_calls<F: Files + Drop>(
+    rt: &impl Runtime,
+    alloc: Global,
+    files: F,
+    keys: u32,
+    place: &str,
+) -> Result<()> {
     let called = called_keys(alloc, keys)?;
-    let (mut gets, mut edits) = (u128::MAX, u128::MAX);
-    for _ in 0..TIMES {
-        let mut disk = started(alloc, files(alloc, keys, &text)?)?;
-        let start = Instant::now(rt)?;
-        get_all(alloc, &mut disk, &called)?;
-        gets = gets.min(start.elapsed(rt)?.as_micros());
-        let mut disk = started(alloc, files(alloc, keys, &text)?)?;
-        let start = Instant::now(rt)?;
-        edit_all(alloc, &mut disk, &called)?;
-        edits = edits.min(start.elapsed(rt)?.as_micros());
+    let (mut gets, mut files) = micros_of_gets(rt, alloc, files, &called)?;
+    for _ in 1..TIMES {
+        let (micros, back) = micros_of_gets(rt, alloc, files, &called)?;
+        gets = gets.min(micros);
+        files = back;
     }
-    println!(rt; "{CALLS} gets among {keys} keys: {gets} microseconds, {CALLS}")?;
-    println!(rt; "{CALLS} edits among {keys} keys: {edits} microseconds, {CALLS}")?;
+    let (mut edits, mut files) = micros_of_edits(rt, alloc, files, &called)?;
+    for _ in 1..TIMES {
+        let (micros, back) = micros_of_edits(rt, alloc, files, &called)?;
+        edits = edits.min(micros);
+        files = back;
+    }
+    println!(rt; "{CALLS} gets among {keys} keys in {place}: {gets} microseconds, {CALLS}")?;
+    println!(rt; "{CALLS} edits among {keys} keys in {place}: {edits} microseconds, {CALLS}")?;
     Ok(())
 }
 
-/// Times a start, and calls with 100 keys and with 16,384.
+// Times the calls over files in memory.
+fn time_memory(rt: &impl Runtime, alloc: Global, keys: u32) -> Result<()> {
+    let text = journal(alloc, keys, 0)?;
+    let files = files(alloc, keys, &text)?;
+    time_calls(rt, alloc, files, keys, "memory")
+}
+
+/// Times a start, and calls with 100 keys and with 16,384, over files in memory and over a folder of the system.
 pub fn time(rt: &impl Runtime, alloc: Global) -> Result<()> {
     time_start(rt, alloc)?;
-    time_calls(rt, alloc, 100)?;
-    time_calls(rt, alloc, MOST)
+    time_memory(rt, alloc, 100)?;
+    time_memory(rt, alloc, MOST)?;
+    folder::time(rt, alloc, [100, MOST])
 }

@@ -4,6 +4,7 @@
 
 mod bitmaps;
 mod disk;
+mod folder;
 mod list;
 mod memory;
 mod pictures;
